@@ -1,0 +1,6 @@
+pub mod Fills
+pub mod Refusing
+pub mod Sending
+pub mod Growing
+pub mod Feeding
+pub mod Answering

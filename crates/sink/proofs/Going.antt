@@ -1,0 +1,12 @@
+-- Bytes to put, with a close behind them or none.
+use mathlib.Core.Path.{refl}
+use mathlib.Core.List.{List, [], _∷_}
+use mathlib.Core.Bool.{Bool, true, false}
+use Prim.Native.Nat.{ℕ}
+use Rattle.orders.proofs.Sending.{Going, none, closing, going}
+use Rattle.sink.specs.Sink.{bytes, down}
+
+pub down-going : (bs : List ℕ) (c : Bool) → Going bytes (down bs c) c
+down-going [] false = none
+down-going [] true = closing refl
+down-going (b ∷ bs) c = going refl (down-going bs c)
