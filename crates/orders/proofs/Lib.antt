@@ -4,3 +4,4 @@ pub mod Sending
 pub mod Growing
 pub mod Feeding
 pub mod Answering
+pub mod Did
