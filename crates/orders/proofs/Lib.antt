@@ -5,3 +5,4 @@ pub mod Growing
 pub mod Feeding
 pub mod Answering
 pub mod Did
+pub mod Adding
