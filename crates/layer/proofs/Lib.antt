@@ -2,3 +2,4 @@ pub mod Sound
 pub mod Steps
 pub mod ByPhase
 pub mod Wiring
+pub mod Law

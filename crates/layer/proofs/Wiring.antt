@@ -33,12 +33,13 @@ then-nothing x = go (x .fault)
     go (Some y) = refl
     go None = ap (λ (l : List ℕ). record { items = l; fault = None }) (append-nil (x .items))
 
-data Behind (bs : List ℕ) (v : Option (List ℕ)) (cs : List ℕ) : Type 0 where
-  is : {ds : List ℕ} → v ≡ Some ds → bs ++ ds ≡ cs → Behind bs v cs
+-- what stands behind the first bytes
+pub data Tail (bs : List ℕ) (v : Option (List ℕ)) (cs : List ℕ) : Type 0 where
+  tail : {ds : List ℕ} → v ≡ Some ds → bs ++ ds ≡ cs → Tail bs v cs
 
-behind-is : (bs : List ℕ) (v : Option (List ℕ)) (cs : List ℕ) → behind bs v ≡ Some cs → Behind bs v cs
-behind-is bs None cs e = let z : _≡_ {A = ℕ} 0 1 = cc in absurd (omega arith)
-behind-is bs (Some ds) cs e = let q : bs ++ ds ≡ cs = cc in is refl q
+pub tail-of : (bs : List ℕ) (v : Option (List ℕ)) (cs : List ℕ) → behind bs v ≡ Some cs → Tail bs v cs
+tail-of bs None cs e = let z : _≡_ {A = ℕ} 0 1 = cc in absurd (omega arith)
+tail-of bs (Some ds) cs e = let q : bs ++ ds ≡ cs = cc in tail refl q
 
 module _ {k : Kind} (a : Machine k) where
   abbrev Adds-below : List (k .Order) → Bool → Type 0
@@ -69,10 +70,10 @@ module _ {k : Kind} (a : Machine k) where
 
       go : Adds-below os c → (mv : Move (a .St)) → a .move s o ≡ mv → wired mv (λ t. wire a t os) ≡ Some cs → addition (run a n s g) (o ∷ os) ≡ lifted (addition g (down cs c))
       go ih (stops x) q h = let z : _≡_ {A = ℕ} 0 1 = cc in absurd (omega arith)
-      go ih (sends bs t) q h = step (behind-is bs (wire a t os) cs h)
+      go ih (sends bs t) q h = step (tail-of bs (wire a t os) cs h)
         where
-          step : Behind bs (wire a t os) cs → addition (run a n s g) (o ∷ os) ≡ lifted (addition g (down cs c))
-          step (is {ds} v l) =
+          step : Tail bs (wire a t os) cs → addition (run a n s g) (o ∷ os) ≡ lifted (addition g (down cs c))
+          step (tail {ds} v l) =
               let x = addition g (down bs false) in
               let y = addition (later-all (down bs false) g) (down ds c) in
               ap (λ (mv : Move (a .St)). then-added (moved a mv (k .closes o) n g .fault) (moved a mv (k .closes o) n g .items) (addition (rest (k .closes o) mv) os)) q

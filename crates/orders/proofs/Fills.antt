@@ -8,7 +8,7 @@ use Rattle.std.specs.declared.option.Option.the-variants.{Some, None}
 use Rattle.fault.specs.declared.fault.Fault.{Fault}
 use Rattle.fault.specs.Answers.{raised, or-else}
 use Rattle.orders.specs.Meaning.{up}
-use Rattle.orders.specs.Permits.{Bars, Filled, filled, fill, lift}
+use Rattle.orders.specs.Permits.{Bars, Filled, filled, fill, lift, Permitted}
 
 abbrev pub cont : {E : Type 0} → Option Fault → Bars E → List E → List E → Filled E
 cont (Some f) bars l ys = record { list = l; fault = Some f }
@@ -60,10 +60,6 @@ pub both-none : (v x : Option Fault) → or-else v x ≡ None → (v ≡ None) �
 both-none (Some f) x h = let z : _≡_ {A = ℕ} 0 1 = cc in absurd (omega arith)
 both-none None x h = (refl, h)
 
-pub cancel : {E : Type 0} (xs ys zs : List E) → xs ++ ys ≡ xs ++ zs → ys ≡ zs
-cancel [] ys zs e = e
-cancel {E} (x ∷ xs) ys zs e = let q : xs ++ ys ≡ xs ++ zs = cc in cancel xs ys zs q
-
 -- a permit passed up fills the same lists, its faults one level higher
 pub fill-raised : {E : Type 0} (bars : List E → E → Option Fault) (foot xs : List E) → fill (λ p b. raised (bars p b)) foot xs ≡ lift (fill bars foot xs)
 fill-raised bars foot [] = refl
@@ -102,3 +98,9 @@ same-fills {E} a b foot h (x ∷ xs) = go (a foot x) refl (λ k. same-fills a b 
     go None e ih =
         let on : (ys : List E) → fill a (foot ++ (x ∷ [])) ys .fault ≡ fill b (foot ++ (x ∷ [])) ys .fault = λ ys. sym (ap (λ (v : Option Fault). at a v ys .fault) e) ∙ h (x ∷ ys) ∙ ap (λ (v : Option Fault). at b v ys .fault) (sym one ∙ e) in
         ap (λ (v : Option Fault). at a v xs) e ∙ ih on ∙ sym (ap (λ (v : Option Fault). at b v xs) (sym one ∙ e))
+
+-- what is permitted a level higher is permitted
+pub permitted-below : {E : Type 0} (bars : Bars E) (xs : List E) → Permitted (λ p x. raised (bars p x)) xs → Permitted bars xs
+permitted-below {E} bars xs e =
+    let h = sym (fill-raised bars [] xs) ∙ e in
+    λ i. record { list = h i .list; fault = raised-none (fill bars [] xs .fault) (ap (λ (w : Filled E). w .fault) h) i }

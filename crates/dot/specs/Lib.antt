@@ -1,0 +1,5 @@
+pub mod Stuffing
+pub mod Undot
+pub mod Dot
+pub mod Law
+pub mod ByLines

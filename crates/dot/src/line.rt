@@ -1,0 +1,7 @@
+// Where a stage stands in a line.
+#[derive(Clone, Copy)]
+pub enum LineState {
+    Start,
+    Within,
+    AfterCr,
+}
