@@ -7,7 +7,7 @@ use native.Mathlib.Omega.{arith}
 use native.Mathlib.Numerals.{one-add}
 use lib.ListN.{length, take, drop, getD, length-take, length-append, take-append-drop}
 use lib.Dec.{ltb, eqb}
-use borrow.Author.Tests.{eqb-true, eq-eqb, lt-ltb}
+use borrow.Author.Tests.{eqb-true, eq-eqb, lt-ltb, le-ltb}
 use Rattle.std.proofs.shelf.Lists.{nil-from-length, getD-at}
 use Rattle.std.specs.declared.option.Option.{Option}
 use Rattle.std.specs.declared.option.Option.the-variants.{Some, None}
@@ -31,7 +31,7 @@ use Rattle.sink.specs.Sink.{Order, put, close, closes, counts, down}
 use Rattle.sink.specs.Law.{Accepts, Lawful}
 use Rattle.ends.specs.Ends.{end-means, end-fresh, end-adds, running-adds, fits, matches, held, memory-means, compare-means}
 
-adds-whole : (n : ℕ) (bs : List ℕ) → addition (running-adds n) (down bs true) ≡ record { items = bs; fault = None }
+pub adds-whole : (n : ℕ) (bs : List ℕ) → addition (running-adds n) (down bs true) ≡ record { items = bs; fault = None }
 adds-whole n [] = refl
 adds-whole n (b ∷ bs) = ap (λ (a : Added ℕ). record { items = b ∷ a .items; fault = a .fault }) (adds-whole (grown n) bs)
 
@@ -114,3 +114,10 @@ memory-lawful v n ph =
 
 pub compare-lawful : (ref : List ℕ) (n : ℕ) (ph : Phase Fault) → Lawful (compare-means ref n ph)
 compare-lawful ref n ph = end-lawful (matches ref) (take n ref) (matches-hard ref) (matches-all ref [] (take n ref) (drop n ref) (take-append-drop n ref)) ph
+
+-- a reference permits itself, and may be closed on
+pub whole-matches : (ref : List ℕ) → Permitted (matches ref .bars) ref
+whole-matches ref = matches-all ref [] ref [] (append-nil ref)
+
+pub whole-ends : (ref : List ℕ) → matches ref .ending ref ≡ None
+whole-ends ref = rw (le-ltb (length ref) (length ref) (omega arith)) refl

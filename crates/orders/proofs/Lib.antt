@@ -6,3 +6,4 @@ pub mod Feeding
 pub mod Answering
 pub mod Did
 pub mod Adding
+pub mod Appending
