@@ -3,3 +3,4 @@ pub mod Passing
 pub mod Footing
 pub mod Accepting
 pub mod Returning
+pub mod Tripping

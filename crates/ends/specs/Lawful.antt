@@ -91,7 +91,7 @@ matches-hard ref = record {
 step : (bars : List ℕ → ℕ → Option Fault) (foot : List ℕ) (x : ℕ) (xs : List ℕ) → bars foot x ≡ None → fill bars (foot ++ (x ∷ [])) xs ≡ all-of ((foot ++ (x ∷ [])) ++ xs) → fill bars foot (x ∷ xs) ≡ all-of (foot ++ (x ∷ xs))
 step bars foot x xs e ih = ap (λ (v : Option Fault). filled v foot (fill bars (foot ++ (x ∷ [])) xs)) e ∙ ih ∙ ap all-of (append-assoc foot (x ∷ []) xs)
 
-fits-all : (n : ℕ) (foot xs : List ℕ) → length foot + length xs ≤ n → fill (fits n .bars) foot xs ≡ all-of (foot ++ xs)
+pub fits-all : (n : ℕ) (foot xs : List ℕ) → length foot + length xs ≤ n → fill (fits n .bars) foot xs ≡ all-of (foot ++ xs)
 fits-all n foot [] h = ap all-of (sym (append-nil foot))
 fits-all n foot (x ∷ xs) h =
     let l = length-append foot (x ∷ []) in
