@@ -1,0 +1,3 @@
+// Line ends: LF turned into CRLF, and what a text's lines come to.
+pub mod count;
+pub mod crlf;
