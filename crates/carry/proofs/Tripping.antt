@@ -37,20 +37,6 @@ use Rattle.carry.specs.Trip.{new-stage}
 use Rattle.carry.proofs.Accepting.{accepted}
 use Rattle.carry.proofs.Returning.{comes-back}
 
-pub told-back-ok : {T U F : Type 0} (u : U → Fault) (f : F → Fault) (r : Result T (Stop U F)) (x : T) → told-back u f r ≡ Ok x → r ≡ Ok x
-told-back-ok u f (Ok y) x e = let q : y ≡ x = cc in ap (λ z. Ok z) q
-told-back-ok u f (Err s) x e = let z : _≡_ {A = ℕ} 0 1 = cc in absurd (omega arith)
-
-pub told-is-ok : {T F : Type 0} (f : F → Fault) (r : Result T F) (x : T) → told f r ≡ answer x None → isOk r ≡ true
-told-is-ok f (Ok y) x e = refl
-told-is-ok f (Err s) x e = let z : _≡_ {A = ℕ} 0 1 = cc in absurd (omega arith)
-
--- an answer that is one tells no fault
-pub no-fault : {T F : Type 0} (f : F → Fault) (r : Result T F) (x : T) (v : Option Fault) → told f r ≡ answer x v → isOk r ≡ true → v ≡ None
-no-fault f r x None e h = refl
-no-fault f (Ok y) x (Some g) e h = let z : _≡_ {A = ℕ} 0 1 = cc in absurd (omega arith)
-no-fault f (Err s) x (Some g) e h = let z : _≡_ {A = ℕ} 0 1 = cc in absurd (omega arith)
-
 module _ (v : Vec ℕ Global) (bs : List ℕ) where
   abbrev reached : Filled ℕ
   reached = reach (new-stage v) (down bs true) true

@@ -3,3 +3,4 @@ pub mod back;
 pub mod carried;
 pub mod send;
 pub mod stop;
+pub mod trip;

@@ -15,7 +15,7 @@ use Rattle.std.specs.declared.alloc.Global.{Global}
 use Rattle.std.specs.Of.Vec.{vec-items, vec-len}
 use Rattle.std.specs.Results.{isOk}
 use Rattle.fault.specs.declared.fault.Fault.{Fault}
-use Rattle.fault.specs.Answers.{answer}
+use Rattle.fault.specs.Answers.{told, answer}
 use Rattle.fault.specs.Kinds.{end-fault, stage-fault, undo-fault}
 use Rattle.orders.specs.declared.phase.Phase.the-variants.{Running}
 use Rattle.orders.specs.Permits.{Filled}
@@ -30,9 +30,10 @@ use Rattle.ends.specs.declared.memory.MemoryEnd.{MemoryEnd}
 use Rattle.dot.specs.declared.line.LineState.the-variants.{Start}
 use Rattle.dot.specs.declared.dot.Dot.{Dot}
 use Rattle.dot.specs.Dot.{dot}
-use Rattle.carry.specs.Back.{passed, returned, told-back}
-use Rattle.carry.specs.Trip.{new-stage}
-use Rattle.carry.proofs.Tripping.{told-back-ok, told-is-ok, no-fault, trip-back, trip-stuffed}
+use Rattle.carry.specs.Back.{passed, returned}
+use Rattle.carry.specs.Trip.{new-stage, trip-meant, trip-of, way-back}
+use Rattle.orders.proofs.Answering.{answer-ok, answer-err}
+use Rattle.carry.proofs.Tripping.{trip-back, trip-stuffed}
 use Rattle.carry.proofs.carried.carry.Needs.{in-Ok, in-Err}
 use Rattle.carry.proofs.carried.carry.Needs as need
 
@@ -63,24 +64,18 @@ returns c =
     let cut : ℕ → Vec ℕ Global → List ℕ = λ n x. drop n (vec-items x) in
     record {
       wire = wire;
-      sent = sent;
       kept = ap₂ cut (sym long) mem ∙ c .send-sent .ensures .behind ∙ ap₂ cut long first;
       within = in-it;
-      back = λ h. elim (c .match-sent .came) [
+      trip = elim (c .match-sent .came) [
         | in-Ok w ↦
-          let none = no-fault stage-fault (c .send-sent .result) _ _ sent h in
+          let none : reach (new-stage v) (down body true) true .fault ≡ None = answer-ok _ _ _ (ap (told stage-fault) (sym (w .in-Ok .is)) ∙ sent) in
           let und = c .undoing-undoing .ensures ∙ ap (λ (m : Sink). m .fixed .also) m0 in
-          let end = w .new-end .ensures in
           let bytes = ap (λ n. take n (w .as-slice .result .now)) (sub-zero (r .1)) ∙ ap (take (r .1)) (w .as-slice .ensures .value) in
-          let all = w .bring-back .ensures .answered ∙ (λ i. returned (passed (und i) (compare-means (end .0 i) (end .1 i) (phased end-fault (end .2 i))) (bytes i))) ∙ trip-back v body _ none wire in
-          w .back-is ∙ ap (λ x. Some x) (told-back-ok undo-fault end-fault (w .bring-back .result) _ all)
-        | in-Err w ↦ let e = ap isOk (w .in-Err .is) in let z : _≡_ {A = ℕ} 0 1 = cc in absurd (omega arith)
+          let all = (λ i. returned (passed (und i) (compare-means body 0 Running) (bytes i))) ∙ trip-back v body _ none wire in
+          ap (trip-meant stage-fault undo-fault end-fault) (w .trip-is) ∙ w .return-wire-trip .ensures ∙ ap way-back all ∙ ap (λ x. trip-of x (shown body)) (sym none)
+        | in-Err w ↦
+          let some : reach (new-stage v) (down body true) true .fault ≡ Some (stage-fault (w .in-Err .f)) = answer-err _ _ _ (ap (told stage-fault) (sym (w .in-Err .is)) ∙ sent) in
+          ap (trip-meant stage-fault undo-fault end-fault) (w .trip-is) ∙ ap (λ x. trip-of x (shown body)) (sym some)
       ];
-      unsent = λ h. elim (c .match-sent .came) [
-        | in-Ok w ↦ let e = ap isOk (w .in-Ok .is) in let z : _≡_ {A = ℕ} 0 1 = cc in absurd (omega arith)
-        | in-Err w ↦ w .back-is
-      ];
-      stuffed = λ ls clean e room.
-        let t = trip-stuffed v body ls clean e room in
-        (wire ∙ ap (λ (w : Filled ℕ). w .list) t, told-is-ok stage-fault (c .send-sent .result) _ (sent ∙ ap (answer _) (ap (λ (w : Filled ℕ). w .fault) t)));
+      stuffed = λ ls clean e room. trip-stuffed v body ls clean e room;
     }
