@@ -33,7 +33,7 @@ pub fn run(rt: &LibcRuntime, options: &CarryOptions) -> Result<(), Trouble> {
     let report = Report::new(body.as_slice(), &carried);
     if !report.came_back() {
         eprint!(rt, "{report}")?;
-        return Err(Trouble::Body);
+        return Err(Trouble::Body(options.lf));
     }
     let wire = &carried.memory.as_slice()[0..carried.len];
     match &options.wire {

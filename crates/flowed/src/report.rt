@@ -77,25 +77,27 @@ pub impl fmt::Display for Report as ReportDisplay {
         let lines = self.lines;
         let dots = self.dots;
         let wire = self.wire;
-        writeln!(f, "body     {body} bytes, {lines} lines")?;
+        writeln!(f, "bytes in           {body}")?;
+        writeln!(f, "lines              {lines}")?;
         match self.trip {
             Trip::CameBack(n) => {
-                writeln!(f, "wire     {wire} bytes, end mark included")?;
-                writeln!(f, "doubled  {dots} dots")?;
-                writeln!(f, "back     {n} bytes, as they were sent")
+                writeln!(f, "bytes on the wire  {wire}, end mark included")?;
+                writeln!(f, "dots doubled       {dots}")?;
+                writeln!(f, "bytes come back    {n}, each as it was sent")
             }
             Trip::Refused(fault) => {
                 let why = InWords(fault);
-                writeln!(f, "refused  {why}")?;
-                writeln!(f, "wire     {wire} bytes had reached the end")
+                writeln!(f, "bytes on the wire  {wire}")?;
+                writeln!(f, "refused            {why}")
             }
-            Trip::Stopped(Stop::Undoing(fault)) => lost(f, fault),
-            Trip::Stopped(Stop::Sink(fault)) => lost(f, fault),
+            Trip::Stopped(Stop::Undoing(fault)) => stopped(f, fault),
+            Trip::Stopped(Stop::Sink(fault)) => stopped(f, fault),
         }
     }
 }
 
-fn lost<W: fmt::Write>(f: &mut fmt::Formatter<W>, fault: Fault) -> fmt::Result {
+// No body comes to this: what was sent is proved to come back.
+fn stopped<W: fmt::Write>(f: &mut fmt::Formatter<W>, fault: Fault) -> fmt::Result {
     let why = InWords(fault);
-    writeln!(f, "lost     {why}")
+    writeln!(f, "stopped            {why}")
 }

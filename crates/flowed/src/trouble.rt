@@ -12,8 +12,8 @@ pub enum Trouble {
     File(String, io::Error),
     Io(io::Error),
     Memory,
-    // the body was refused: the report said so
-    Body,
+    // the body was refused, as the report says; whether its line ends were turned into CRLF
+    Body(bool),
 }
 
 pub impl From<AllocError> for Trouble as TroubleFromAlloc {
@@ -41,7 +41,10 @@ pub impl fmt::Display for Trouble as TroubleDisplay {
             Trouble::File(name, error) => write!(f, "{name}: {error}"),
             Trouble::Io(error) => write!(f, "{error}"),
             Trouble::Memory => write!(f, "no memory is left"),
-            Trouble::Body => write!(f, "the body was not carried"),
+            Trouble::Body(true) => write!(f, "the body was not carried"),
+            Trouble::Body(false) => {
+                write!(f, "the body was not carried (--lf turns LF line ends into CRLF first)")
+            }
         }
     }
 }

@@ -4,7 +4,16 @@ use fault::fault::Fault;
 use fault::layer::Layer;
 use std::fmt;
 
-fn cause_words(cause: Cause) -> &'static str {
+// What is incomplete where an order closes or stops too early.
+fn incomplete_words(layer: Layer) -> &'static str {
+    match layer {
+        Layer::End => "closed before the reference ends",
+        Layer::DotUndoing => "stopped before the end mark",
+        _ => "closed inside a line",
+    }
+}
+
+fn cause_words(cause: Cause, layer: Layer) -> &'static str {
     match cause {
         Cause::ParagraphOpen => "a paragraph is open already",
         Cause::NoParagraph => "no paragraph is open",
@@ -21,7 +30,7 @@ fn cause_words(cause: Cause) -> &'static str {
         Cause::Full => "the memory is full",
         Cause::Differs => "a byte differs from the reference or lies past it",
         Cause::Unpaired => "0D and 0A do not stand in pairs",
-        Cause::Incomplete => "it ends inside a line, before the end mark or before the reference ends",
+        Cause::Incomplete => incomplete_words(layer),
         Cause::AfterEndMark => "a byte stands after the end mark",
     }
 }
@@ -44,7 +53,7 @@ pub struct InWords(pub Fault);
 pub impl fmt::Display for InWords as InWordsDisplay {
     fn fmt<W: fmt::Write>(&self, f: &mut fmt::Formatter<W>) -> fmt::Result {
         let fault = self.0;
-        let why = cause_words(fault.cause);
+        let why = cause_words(fault.cause, fault.layer);
         let cause = fault.cause.number();
         let place = layer_words(fault.layer);
         let layer = fault.layer.number();
