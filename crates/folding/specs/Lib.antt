@@ -1,0 +1,12 @@
+pub mod Text
+pub mod WireLine
+pub mod Breaks
+pub mod Folded
+pub mod Relation
+pub mod Folding
+pub mod Laws
+pub mod Held
+pub mod Incremental
+pub mod Tracking
+pub mod Reading
+pub mod Mails
