@@ -1,0 +1,3 @@
+pub mod Paragraph
+pub mod Law
+pub mod Tickets
