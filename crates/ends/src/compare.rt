@@ -10,7 +10,7 @@ ghost use Rattle.orders.specs.Phases.{phased};
 ghost use Rattle.orders.specs.Steps.{shown};
 ghost use Rattle.ends.specs.Ends.{compare-means};
 ghost use Rattle.ends.specs.Lawful.{compare-lawful};
-use crate::length::capped;
+use fault::cap::capped;
 use fault::cause::Cause;
 use fault::end::EndFault;
 use fault::end::EndRefusal;

@@ -4,7 +4,8 @@ use Rattle.fault.specs.declared.end.EndFault.{EndFault}
 use Rattle.fault.specs.declared.stage.StageFault.{StageFault}
 use Rattle.fault.specs.declared.composer.ComposerFault.{ComposerFault}
 use Rattle.fault.specs.declared.undo.UndoFault.{UndoFault}
-use Rattle.fault.specs.declared.layer.Layer.the-variants.{End}
+use Rattle.fault.specs.declared.store.StoreFault.{StoreFault}
+use Rattle.fault.specs.declared.layer.Layer.the-variants.{End, Store}
 use Rattle.fault.specs.Faults.{own}
 
 abbrev pub end-fault : EndFault → Fault
@@ -18,3 +19,6 @@ stage-fault f = f .0
 
 abbrev pub composer-fault : ComposerFault → Fault
 composer-fault f = f .0
+
+abbrev pub store-fault : StoreFault → Fault
+store-fault f = own (f .cause) Store (f .place)

@@ -1,4 +1,5 @@
 // Faults: why, where and at which place an order was refused, and how a fault rises.
+pub mod cap;
 pub mod cause;
 pub mod composer;
 pub mod end;
@@ -7,4 +8,5 @@ pub mod layer;
 pub mod refusal;
 pub mod rise;
 pub mod stage;
+pub mod store;
 pub mod undo;

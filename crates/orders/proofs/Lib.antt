@@ -7,3 +7,4 @@ pub mod Answering
 pub mod Did
 pub mod Adding
 pub mod Appending
+pub mod Bottoms

@@ -5,3 +5,4 @@ pub mod Lists
 pub mod Laws
 pub mod Phases
 pub mod Behind
+pub mod Bottom

@@ -1,7 +1,8 @@
 -- Paragraph takers: takers of five orders.
 use mathlib.Core.List.{List, [], _∷_}
-use mathlib.Core.Bool.{Bool, true, false}
+use mathlib.Core.Bool.{Bool, true, false, _||_}
 use Prim.Native.Nat.{ℕ}
+use lib.Dec.{eqb}
 use Rattle.orders.specs.Meaning.{Kind, Meaning}
 use Rattle.orders.specs.Lists.{each}
 
@@ -39,3 +40,11 @@ Taker E = Meaning paragraphs E
 -- an order for each byte of a chunk
 abbrev pub text-orders : List ℕ → List Order
 text-orders bs = each texts bs []
+
+-- a byte that may not be text: 00, 0A and 0D
+abbrev pub barred : ℕ → Bool
+barred b = eqb b 0 || eqb b 10 || eqb b 13
+
+-- the greatest quote depth
+abbrev pub deepest : ℕ
+deepest = 100

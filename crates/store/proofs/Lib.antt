@@ -1,0 +1,6 @@
+pub mod Asking
+pub mod Filing
+pub mod Footing
+pub mod Taking
+pub mod Orders
+pub mod Replying

@@ -1,0 +1,9 @@
+pub mod Events
+pub mod Store
+pub mod Tiles
+pub mod Foot
+pub mod Lawful
+pub mod Contents
+pub mod Keeps
+pub mod Meant
+pub mod Written
