@@ -3,3 +3,4 @@ pub mod Steps
 pub mod ByPhase
 pub mod Wiring
 pub mod Law
+pub mod Alike

@@ -8,3 +8,4 @@ pub mod Did
 pub mod Adding
 pub mod Appending
 pub mod Bottoms
+pub mod Alikes

@@ -6,3 +6,4 @@ pub mod Laws
 pub mod Phases
 pub mod Behind
 pub mod Bottom
+pub mod Alike
