@@ -10,6 +10,8 @@ mod piles;
 #[cfg(test)]
 mod seen;
 #[cfg(test)]
+mod store_orders;
+#[cfg(test)]
 mod undoing_refusals;
 
 // The worked mails are what the definitions give.
