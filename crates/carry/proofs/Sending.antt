@@ -30,19 +30,17 @@ module _ (m : Sink) (bs : List ℕ) where
 
   -- refused among the bytes
   pub cut-short : (f : Fault) → sent-fault m (down bs false) ≡ Some f → (sent-fault m (down bs true) ≡ Some f) × (sent m (down bs true) ≡ n)
-  cut-short f e =
-      (
-        ap (sent-fault m) (down-close bs) ∙ sent-fault-append m (down bs false) (close ∷ []) ∙ ap (λ (v : Option Fault). or-else v (sent-fault n (close ∷ []))) e,
-        ap (sent m) (down-close bs) ∙ sent-append m (down bs false) (close ∷ []) ∙ ap (λ (v : Option Fault). sent-on v n (sent n (close ∷ []))) e
-      )
+  cut-short f e = (
+    ap (sent-fault m) (down-close bs) ∙ sent-fault-append m (down bs false) (close ∷ []) ∙ ap (λ (v : Option Fault). or-else v (sent-fault n (close ∷ []))) e,
+    ap (sent m) (down-close bs) ∙ sent-append m (down bs false) (close ∷ []) ∙ ap (λ (v : Option Fault). sent-on v n (sent n (close ∷ []))) e,
+  )
 
   -- all taken, and then the close
   pub then-closed : sent-fault m (down bs false) ≡ None → (sent-fault m (down bs true) ≡ verdict n close) × (sent m (down bs true) ≡ after n close)
-  then-closed e =
-      (
-        ap (sent-fault m) (down-close bs) ∙ sent-fault-append m (down bs false) (close ∷ []) ∙ ap (λ (v : Option Fault). or-else v (sent-fault n (close ∷ []))) e ∙ alone (verdict n close),
-        ap (sent m) (down-close bs) ∙ sent-append m (down bs false) (close ∷ []) ∙ ap (λ (v : Option Fault). sent-on v n (sent n (close ∷ []))) e ∙ one-sent (verdict n close) (after n close)
-      )
+  then-closed e = (
+    ap (sent-fault m) (down-close bs) ∙ sent-fault-append m (down bs false) (close ∷ []) ∙ ap (λ (v : Option Fault). or-else v (sent-fault n (close ∷ []))) e ∙ alone (verdict n close),
+    ap (sent m) (down-close bs) ∙ sent-append m (down bs false) (close ∷ []) ∙ ap (λ (v : Option Fault). sent-on v n (sent n (close ∷ []))) e ∙ one-sent (verdict n close) (after n close),
+  )
 
   pub as-whole : ran m (down bs true) ≡ reach m (down bs true) true
   as-whole = ran-reach m (down bs true) true (down-going bs true)

@@ -59,15 +59,24 @@ pub impl<'a> ByteSink for CompareEnd<'a> as CompareByteSink {
     fn put(&mut self, b: u8) -> Result<(), EndFault> {
         let place = self.taken();
         match self.phase {
-            Phase::Closed => Err(EndFault { cause: Cause::AfterClose, place }),
-            Phase::Shut(_) => Err(EndFault { cause: Cause::AfterShut, place }),
+            Phase::Closed => Err(EndFault {
+                cause: Cause::AfterClose,
+                place,
+            }),
+            Phase::Shut(_) => Err(EndFault {
+                cause: Cause::AfterShut,
+                place,
+            }),
             Phase::Running => {
                 let n = self.len;
                 if n < self.reference.len() && self.reference[n] == b {
                     self.len = n + 1;
                     Ok(())
                 } else {
-                    let f = EndFault { cause: Cause::Differs, place };
+                    let f = EndFault {
+                        cause: Cause::Differs,
+                        place,
+                    };
                     self.phase = Phase::Shut(f);
                     Err(f)
                 }
@@ -78,11 +87,20 @@ pub impl<'a> ByteSink for CompareEnd<'a> as CompareByteSink {
     fn close(&mut self) -> Result<u32, EndFault> {
         let place = self.taken();
         match self.phase {
-            Phase::Closed => Err(EndFault { cause: Cause::AfterClose, place }),
-            Phase::Shut(_) => Err(EndFault { cause: Cause::AfterShut, place }),
+            Phase::Closed => Err(EndFault {
+                cause: Cause::AfterClose,
+                place,
+            }),
+            Phase::Shut(_) => Err(EndFault {
+                cause: Cause::AfterShut,
+                place,
+            }),
             Phase::Running => {
                 if self.len < self.reference.len() {
-                    let f = EndFault { cause: Cause::Incomplete, place };
+                    let f = EndFault {
+                        cause: Cause::Incomplete,
+                        place,
+                    };
                     self.phase = Phase::Shut(f);
                     Err(f)
                 } else {

@@ -72,8 +72,14 @@ pub impl ByteSink for MemoryEnd as MemoryByteSink {
     fn put(&mut self, b: u8) -> Result<(), EndFault> {
         let place = self.taken();
         match self.phase {
-            Phase::Closed => Err(EndFault { cause: Cause::AfterClose, place }),
-            Phase::Shut(_) => Err(EndFault { cause: Cause::AfterShut, place }),
+            Phase::Closed => Err(EndFault {
+                cause: Cause::AfterClose,
+                place,
+            }),
+            Phase::Shut(_) => Err(EndFault {
+                cause: Cause::AfterShut,
+                place,
+            }),
             Phase::Running => {
                 let n = self.len;
                 if n < self.memory.len() {
@@ -81,7 +87,10 @@ pub impl ByteSink for MemoryEnd as MemoryByteSink {
                     self.len = n + 1;
                     Ok(())
                 } else {
-                    let f = EndFault { cause: Cause::Full, place };
+                    let f = EndFault {
+                        cause: Cause::Full,
+                        place,
+                    };
                     self.phase = Phase::Shut(f);
                     Err(f)
                 }
@@ -92,8 +101,14 @@ pub impl ByteSink for MemoryEnd as MemoryByteSink {
     fn close(&mut self) -> Result<u32, EndFault> {
         let place = self.taken();
         match self.phase {
-            Phase::Closed => Err(EndFault { cause: Cause::AfterClose, place }),
-            Phase::Shut(_) => Err(EndFault { cause: Cause::AfterShut, place }),
+            Phase::Closed => Err(EndFault {
+                cause: Cause::AfterClose,
+                place,
+            }),
+            Phase::Shut(_) => Err(EndFault {
+                cause: Cause::AfterShut,
+                place,
+            }),
             Phase::Running => {
                 self.phase = Phase::Closed;
                 Ok(place)

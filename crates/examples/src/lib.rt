@@ -17,5 +17,4 @@ mod undoing_refusals;
 // The worked mails are what the definitions give.
 pub fn mails_stand()
     ensures { λ _. ⌜ Mails ⌝ }
-{
-}
+{}

@@ -1,8 +1,8 @@
 // Small mails through piles: every size of memory, every cut, a stage over a stage, either end.
+use crate::seen::numbers;
 use carry::carried::carry;
 use carry::trip::Trip;
 use carry::trip::TripClone;
-use crate::seen::numbers;
 use dot::dot::Dot;
 use dot::dot::DotByteSink;
 use dot::undot::DotUndoStage;
@@ -21,6 +21,7 @@ use undo::plain::PlainUndo;
 
 // By RFC 5321, section 4.5.2.
 const BODY: &[u8] = b".x\r\n..\r\nend.\r\n";
+
 const WIRE: &[u8] = b"..x\r\n...\r\nend.\r\n.\r\n";
 
 // With memory for n bytes: what the mail's wire bytes leave there, and the fault.

@@ -17,7 +17,10 @@ fn empty(rt: &LibcRuntime, records: usize, bytes: usize) -> Result<Store, Fail> 
         start: 7,
         length: 7,
     };
-    Ok(Store::new(vec![in rt.alloc(); blank; records]?, vec![in rt.alloc(); 0xEEu8; bytes]?))
+    Ok(Store::new(
+        vec![in rt.alloc(); blank; records]?,
+        vec![in rt.alloc(); 0xEEu8; bytes]?,
+    ))
 }
 
 fn is_fault(f: StoreFault, cause: u8, place: u32) -> Result<(), Fail> {

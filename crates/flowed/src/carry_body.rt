@@ -1,4 +1,9 @@
 // flowed carry.
+ghost use Prim.Native.Nat.{_+_};
+ghost use mathlib.Core.Path.{_≡_};
+ghost use lib.ListN.{length};
+ghost use Rattle.std.specs.Options.{Cases as BySome};
+ghost use Rattle.line_ends.specs.LineEnds.{leading-dots};
 use crate::files;
 use crate::options::CarryOptions;
 use crate::report::Report;
@@ -11,8 +16,12 @@ use line_ends::count::count_leading_dots;
 use line_ends::crlf::to_crlf;
 
 // Room for the body with its dots doubled and the end mark.
-fn room(body: &[u8]) -> Option<usize> {
-    body.len().checked_add(count_leading_dots(body))?.checked_add(3)
+fn room(body: &[u8]) -> Option<usize>
+    ensures { λ r. ⌜ BySome r (Unit {0}) (λ n. n ≡ length (now (body .entry)) + leading-dots 10 (now (body .entry)) + 3) ⌝ }
+{
+    body.len()
+        .checked_add(count_leading_dots(body))?
+        .checked_add(3)
 }
 
 fn body_of(rt: &LibcRuntime, options: &CarryOptions) -> Result<Vec<u8>, Trouble> {

@@ -6,13 +6,6 @@ use std::fs;
 use std::io::Read;
 use std::io::Write;
 
-pub fn is_standard(name: &Option<String>) -> bool {
-    match name {
-        Some(name) => name.as_str() == "-",
-        None => true,
-    }
-}
-
 pub fn read_all(rt: &LibcRuntime, name: &Option<String>) -> Result<Vec<u8>, Trouble> {
     if let Some(name) = name {
         if name.as_str() != "-" {

@@ -43,7 +43,10 @@ pub impl fmt::Display for Trouble as TroubleDisplay {
             Trouble::Memory => write!(f, "no memory is left"),
             Trouble::Body(true) => write!(f, "the body was not carried"),
             Trouble::Body(false) => {
-                write!(f, "the body was not carried (--lf turns LF line ends into CRLF first)")
+                write!(
+                    f,
+                    "the body was not carried (--lf turns LF line ends into CRLF first)"
+                )
             }
         }
     }

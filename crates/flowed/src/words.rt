@@ -59,6 +59,9 @@ pub impl fmt::Display for InWords as InWordsDisplay {
         let layer = fault.layer.number();
         let level = fault.level;
         let at = fault.place;
-        write!(f, "{why} (cause {cause}) in {place} (layer {layer}), level {level}, place {at}")
+        write!(
+            f,
+            "{why} (cause {cause}) in {place} (layer {layer}), level {level}, place {at}"
+        )
     }
 }

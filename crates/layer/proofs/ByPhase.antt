@@ -23,7 +23,6 @@ use Rattle.orders.specs.Lists.{sent, sent-fault}
 use Rattle.sink.specs.Sink.{Sink, down}
 use Rattle.layer.specs.Layer.{Machine, sends, stops, Stirs, layer-means, layer-says}
 use Rattle.orders.specs.Phases.{gone, phased}
-
 use Rattle.orders.proofs.Did.{Did}
 use Rattle.orders.proofs.Fills.{raised-none}
 use Rattle.layer.proofs.Steps.{layer-verdict, layer-on, layer-shut, own-verdict, own-shut, own-stays, closed-verdict, closed-stays, shut-verdict, shut-stays}

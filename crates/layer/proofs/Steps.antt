@@ -82,9 +82,9 @@ module _ {k : Kind} (a : Machine k) (m : Sink) (s : a .St) (n : ℕ) (o : k .Ord
   layer-shut f u h =
       let foot = sent m orders .foot in
       sym (
-        layer-to (Some f) h
-        ∙ ap (λ (b : Bool). cond b (stays here foot) (shuts here (raise f) foot)) (mild-raise f)
-        ∙ ap (λ (x : Fixed bytes ℕ). record { fixed = layer-fixed a x; foot = foot; adds = refuses (own AfterShut (a .layer) n); says = silent; fresh = false; place = n; standing = Some (raise f) }) (sym (sent-fixed m orders))
+      layer-to (Some f) h
+      ∙ ap (λ (b : Bool). cond b (stays here foot) (shuts here (raise f) foot)) (mild-raise f)
+      ∙ ap (λ (x : Fixed bytes ℕ). record { fixed = layer-fixed a x; foot = foot; adds = refuses (own AfterShut (a .layer) n); says = silent; fresh = false; place = n; standing = Some (raise f) }) (sym (sent-fixed m orders))
       )
 
   abbrev n′ : ℕ

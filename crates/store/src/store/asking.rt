@@ -33,8 +33,20 @@ fn own_cause(count: u32, inside: bool, ask: Ask) -> Option<Cause>
     if inside {
         match ask {
             Ask::Open(_) => Some(Cause::ParagraphOpen),
-            Ask::Text(b) => { if is_barred(b) { Some(Cause::BarredByte) } else { None } }
-            Ask::End(n) => { if is_next(count, n) { None } else { Some(Cause::WrongNumber) } }
+            Ask::Text(b) => {
+                if is_barred(b) {
+                    Some(Cause::BarredByte)
+                } else {
+                    None
+                }
+            }
+            Ask::End(n) => {
+                if is_next(count, n) {
+                    None
+                } else {
+                    Some(Cause::WrongNumber)
+                }
+            }
             Ask::GiveUp(n) => {
                 if is_next(count, n) {
                     Some(Cause::GivenUp)
@@ -73,8 +85,14 @@ impl Store {
     {
         let place = self.place();
         match self.phase {
-            Phase::Closed => Some(StoreFault { cause: Cause::AfterClose, place }),
-            Phase::Shut(_) => Some(StoreFault { cause: Cause::AfterShut, place }),
+            Phase::Closed => Some(StoreFault {
+                cause: Cause::AfterClose,
+                place,
+            }),
+            Phase::Shut(_) => Some(StoreFault {
+                cause: Cause::AfterShut,
+                place,
+            }),
             Phase::Running => match own_cause(self.count, self.inside, ask) {
                 None => None,
                 Some(cause) => {

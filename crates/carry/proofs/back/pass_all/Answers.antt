@@ -39,10 +39,9 @@ loop-i-again g c =
     let m = g .S·ByteSink .means (c .args .sink .now) in
     let n = g .S·ByteSink .means (c .loop-i .sink) in
     let h = subst (λ (r : List ℕ). Rest u v m n i xs r) (drop-more xs i 0 (c .loop-i-test .taken)) (c .loop-i .inv .0) in
-    let d = went-through u v m n i xs b _ h (sym (c .in-rest .ensures tt .stop)) in
-    (
+    let d = went-through u v m n i xs b _ h (sym (c .in-rest .ensures tt .stop)) in (
       rw (c .pass .ensures .undoing, c .pass .ensures .sink) d,
-      behind-on (v .takes [] b) n _ _ _ _ (c .pass .ensures .sink) (c .loop-i .inv .1) (c .pass .ensures .behind)
+      behind-on (v .takes [] b) n _ _ _ _ (c .pass .ensures .sink) (c .loop-i .inv .1) (c .pass .ensures .behind),
     )
 
 pub returns : need.returns

@@ -68,14 +68,14 @@ returns c =
       within = in-it;
       trip = elim (c .match-sent .came) [
         | in-Ok w ↦
-          let none : reach (new-stage v) (down body true) true .fault ≡ None = answer-ok _ _ _ (ap (told stage-fault) (sym (w .in-Ok .is)) ∙ sent) in
-          let und = c .undoing-undoing .ensures ∙ ap (λ (m : Sink). m .fixed .also) m0 in
-          let bytes = ap (λ n. take n (w .as-slice .result .now)) (sub-zero (r .1)) ∙ ap (take (r .1)) (w .as-slice .ensures .value) in
-          let all = (λ i. returned (passed (und i) (compare-means body 0 Running) (bytes i))) ∙ trip-back v body _ none wire in
-          ap (trip-meant stage-fault undo-fault end-fault) (w .trip-is) ∙ w .return-wire-trip .ensures ∙ ap way-back all ∙ ap (λ x. trip-of x (shown body)) (sym none)
+            let none : reach (new-stage v) (down body true) true .fault ≡ None = answer-ok _ _ _ (ap (told stage-fault) (sym (w .in-Ok .is)) ∙ sent) in
+            let und = c .undoing-undoing .ensures ∙ ap (λ (m : Sink). m .fixed .also) m0 in
+            let bytes = ap (λ n. take n (w .as-slice .result .now)) (sub-zero (r .1)) ∙ ap (take (r .1)) (w .as-slice .ensures .value) in
+            let all = (λ i. returned (passed (und i) (compare-means body 0 Running) (bytes i))) ∙ trip-back v body _ none wire in
+            ap (trip-meant stage-fault undo-fault end-fault) (w .trip-is) ∙ w .return-wire-trip .ensures ∙ ap way-back all ∙ ap (λ x. trip-of x (shown body)) (sym none)
         | in-Err w ↦
-          let some : reach (new-stage v) (down body true) true .fault ≡ Some (stage-fault (w .in-Err .f)) = answer-err _ _ _ (ap (told stage-fault) (sym (w .in-Err .is)) ∙ sent) in
-          ap (trip-meant stage-fault undo-fault end-fault) (w .trip-is) ∙ ap (λ x. trip-of x (shown body)) (sym some)
+            let some : reach (new-stage v) (down body true) true .fault ≡ Some (stage-fault (w .in-Err .f)) = answer-err _ _ _ (ap (told stage-fault) (sym (w .in-Err .is)) ∙ sent) in
+            ap (trip-meant stage-fault undo-fault end-fault) (w .trip-is) ∙ ap (λ x. trip-of x (shown body)) (sym some)
       ];
       stuffed = λ ls clean e room. trip-stuffed v body ls clean e room;
     }

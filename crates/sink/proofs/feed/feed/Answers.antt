@@ -39,10 +39,9 @@ loop-i-again g c =
     let n = g .S·ByteSink .means (c .loop-i .sink) in
     let b = getD xs i 0 in
     let h = subst (λ (r : List ℕ). Rest put m n i xs r) (drop-more xs i 0 (c .loop-i-test .taken)) (c .loop-i .inv .0) in
-    let v = answer-ok tt _ _ (c .in-rest .ensures tt .answered) in
-    (
+    let v = answer-ok tt _ _ (c .in-rest .ensures tt .answered) in (
       rw (c .put .ensures .changed) (accepted put m n i xs b _ h v),
-      behind-then n _ (put b) _ _ _ (c .put .ensures .changed) (c .loop-i .inv .1) (c .put .ensures .behind)
+      behind-then n _ (put b) _ _ _ (c .put .ensures .changed) (c .loop-i .inv .1) (c .put .ensures .behind),
     )
 
 pub returns : need.returns

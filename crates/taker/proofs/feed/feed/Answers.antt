@@ -38,10 +38,9 @@ loop-i-again g c =
     let n = g .T·ParagraphTaker .means (c .loop-i .taker) in
     let b = getD xs i 0 in
     let h = subst (λ (r : List ℕ). Rest texts m n i xs r) (drop-more xs i 0 (c .loop-i-test .taken)) (c .loop-i .inv .0) in
-    let v = answer-ok tt _ _ (c .in-rest .ensures tt .answered) in
-    (
+    let v = answer-ok tt _ _ (c .in-rest .ensures tt .answered) in (
       rw (c .put .ensures .changed) (accepted texts m n i xs b _ h v),
-      g .T·ParagraphTaker .chained (c .args .taker .now) (c .loop-i .taker) _ (c .loop-i .inv .1) (c .put .ensures .kept)
+      g .T·ParagraphTaker .chained (c .args .taker .now) (c .loop-i .taker) _ (c .loop-i .inv .1) (c .put .ensures .kept),
     )
 
 pub returns : need.returns
