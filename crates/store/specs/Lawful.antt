@@ -23,7 +23,7 @@ use Rattle.orders.specs.Steps.{place-on, verdict, reached, finished, mild}
 use Rattle.orders.specs.Laws.{Hard}
 use Rattle.orders.specs.Bottom.{Step, takes, stops, state-on, state-after, stepped, run, run-on, bottom-adds, bottom-says}
 use Rattle.orders.proofs.Bottoms.{bottom-sound}
-use Rattle.orders.proofs.Refusing.{refused}
+use Rattle.orders.proofs.Refusing.{refused, refused-stays}
 use Rattle.taker.specs.Paragraph.{Order, opens, texts, ends, gives-up, finishes, closes, counts, Taker, barred}
 use Rattle.taker.specs.Law.{Lawful, more, Numbered, Deaf, Hearing}
 use Rattle.taker.specs.Law.{opened as numbered-after}
@@ -106,10 +106,10 @@ module _ (records : List Record) (bytes : List ℕ) (n used : ℕ) where
       go false q h = full (ltb (texts-in foot) (length bytes)) h
 
   uniform : (i : Bool) (ph : Phase Fault) → Deaf (m i ph) ⊎ Hearing (m i ph)
-  uniform false Running = inl (λ b. (own NoParagraph Store (min used most), (refused (m false Running) (texts b) (own NoParagraph Store (min used most)) refl, refl)))
+  uniform false Running = inl (λ b. (own NoParagraph Store (min used most), (refused (m false Running) (texts b) (own NoParagraph Store (min used most)) refl, refused-stays (m false Running) (texts b) (own NoParagraph Store (min used most)) refl refl)))
   uniform true Running = inr hearing
-  uniform i Closed = inl (λ b. (own AfterClose Store (min used most), (refused (m i Closed) (texts b) (own AfterClose Store (min used most)) refl, refl)))
-  uniform i (Shut f) = inl (λ b. (own AfterShut Store (min used most), (refused (m i (Shut f)) (texts b) (own AfterShut Store (min used most)) refl, refl)))
+  uniform i Closed = inl (λ b. (own AfterClose Store (min used most), (refused (m i Closed) (texts b) (own AfterClose Store (min used most)) refl, refused-stays (m i Closed) (texts b) (own AfterClose Store (min used most)) refl refl)))
+  uniform i (Shut f) = inl (λ b. (own AfterShut Store (min used most), (refused (m i (Shut f)) (texts b) (own AfterShut Store (min used most)) refl, refused-stays (m i (Shut f)) (texts b) (own AfterShut Store (min used most)) refl refl)))
 
   bare : (i : Bool) → (not i && eqb n 0) ≡ true → told-by records bytes n i ≡ []
   bare true e = let z : _≡_ {A = ℕ} 0 1 = cc in absurd (omega arith)

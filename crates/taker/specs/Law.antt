@@ -6,7 +6,7 @@ use mathlib.Core.Bool.{true, false}
 use Prim.Native.Nat.{ℕ, _+_}
 use Rattle.std.specs.declared.option.Option.the-variants.{Some, None}
 use Rattle.fault.specs.declared.fault.Fault.{Fault}
-use Rattle.orders.specs.Steps.{verdict, mild}
+use Rattle.orders.specs.Steps.{after, verdict, mild}
 use Rattle.orders.specs.Laws.{Sound}
 use Rattle.taker.specs.Paragraph.{Order, opens, texts, ends, gives-up, finishes, Taker}
 
@@ -28,9 +28,9 @@ Numbered m n = (p : List Order) (d : ℕ) → m .adds p (opens d) .fault ≡ Non
 
 -- every text byte is refused, leaving all as it was
 abbrev pub Deaf : {E : Type 0} → Taker E → Type 0
-Deaf m = (b : ℕ) → (f : Fault) × ((verdict m (texts b) ≡ Some f) × (mild f ≡ true))
+Deaf m = (b : ℕ) → (f : Fault) × ((verdict m (texts b) ≡ Some f) × (m ≡ after m (texts b)))
 
--- no text byte is refused so
+-- no text byte is refused so: one that is refused shuts
 abbrev pub Hearing : {E : Type 0} → Taker E → Type 0
 Hearing m = (b : ℕ) (f : Fault) → verdict m (texts b) ≡ Some f → mild f ≡ false
 
