@@ -3,12 +3,14 @@ use mathlib.Core.Path.{_≡_}
 use mathlib.Core.Logic.{_⊎_}
 use mathlib.Core.List.{List, [], _∷_}
 use mathlib.Core.Bool.{true, false}
-use Prim.Native.Nat.{ℕ, _+_}
+use Prim.Native.Nat.{ℕ, _+_, _≤_}
+use lib.ListN.{take}
 use Rattle.std.specs.declared.option.Option.the-variants.{Some, None}
 use Rattle.fault.specs.declared.fault.Fault.{Fault}
 use Rattle.orders.specs.Steps.{after, verdict, mild}
+use Rattle.orders.specs.Lists.{sent}
 use Rattle.orders.specs.Laws.{Sound}
-use Rattle.taker.specs.Paragraph.{Order, opens, texts, ends, gives-up, finishes, Taker}
+use Rattle.taker.specs.Paragraph.{Order, opens, texts, ends, gives-up, finishes, Taker, text-orders}
 
 abbrev pub more : Order → ℕ → ℕ
 more (opens d) n = n + 1
@@ -41,3 +43,7 @@ pub record Lawful {E : Type 0} (m : Taker E) : Type 0 where
   pub numbered : Numbered m before
   -- so that it does not matter where a chunk is cut
   pub uniform : Deaf m ⊎ Hearing m
+
+-- the law holds after each of the first n bytes of a chunk
+abbrev pub Lawful-through : {E : Type 0} → Taker E → List ℕ → ℕ → Type 0
+Lawful-through m bs n = (k : ℕ) → k ≤ n → Lawful (sent m (text-orders (take k bs)))
