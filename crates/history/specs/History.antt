@@ -8,7 +8,7 @@ use Rattle.fault.specs.declared.fault.Fault.{Fault}
 use Rattle.orders.specs.Steps.{after, answered}
 use Rattle.orders.specs.Lists.{sent, sent-fault, count}
 use Rattle.taker.specs.Paragraph.{Order, opens, ends, gives-up, finishes, Taker, text-orders}
-use Rattle.taker.specs.Law.{Lawful}
+use Rattle.taker.specs.Law.{Lawful, Lawful-through}
 
 -- the steps but feed
 pub data Ask : Type 0 where
@@ -32,4 +32,4 @@ pub data Step : Type 0 where
 pub data Reached {E : Type 0} (start : Taker E) : List Step → Taker E → Type 0 where
   begun : {m : Taker E} → Lawful m → m ≡ start → Reached start [] m
   asks : {h : List Step} {m n : Taker E} → Reached start h m → (a : Ask) (r : Result ℕ Fault) → r ≡ answered m (order a) → n ≡ after m (order a) → Lawful n → Reached start (asked a r ∷ h) n
-  feeds : {h : List Step} {m n : Taker E} → Reached start h m → (bs : List ℕ) (c : ℕ) (f : Option Fault) → c ≡ count m (text-orders bs) → f ≡ sent-fault m (text-orders bs) → n ≡ sent m (text-orders bs) → Lawful n → Reached start (fed bs c f ∷ h) n
+  feeds : {h : List Step} {m n : Taker E} → Reached start h m → (bs : List ℕ) (c : ℕ) (f : Option Fault) → c ≡ count m (text-orders bs) → f ≡ sent-fault m (text-orders bs) → n ≡ sent m (text-orders bs) → Lawful-through m bs c → Lawful n → Reached start (fed bs c f ∷ h) n

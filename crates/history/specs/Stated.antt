@@ -1,4 +1,5 @@
 -- What the rules state for a list of orders, one by one, past refusals: whatever the chunks were.
+use mathlib.Core.Path.{_≡_}
 use mathlib.Core.List.{List, [], _∷_}
 use mathlib.Core.Bool.{Bool, true, false}
 use Prim.Native.Nat.{ℕ, _+_}
@@ -8,8 +9,8 @@ use Rattle.std.specs.declared.result.Result.{Result}
 use Rattle.fault.specs.declared.fault.Fault.{Fault}
 use Rattle.orders.specs.Steps.{after, verdict, answered}
 use Rattle.taker.specs.Paragraph.{Order, opens, texts, ends, gives-up, finishes, Taker}
-use Rattle.history.specs.History.{to-open, to-end, to-give-up, to-finish}
-use Rattle.history.specs.Orders.{Reply}
+use Rattle.history.specs.History.{Step, Reached, to-open, to-end, to-give-up, to-finish}
+use Rattle.history.specs.Orders.{Reply, orders, replies, accepted}
 
 abbrev pub offered : {E : Type 0} → Taker E → List Order → Taker E
 offered m [] = m
@@ -39,3 +40,12 @@ tally finishes v n = n
 abbrev pub counted : {E : Type 0} → Taker E → List Order → ℕ → ℕ
 counted m [] n = n
 counted m (o ∷ os) n = counted (after m o) os (tally o (verdict m o) n)
+
+-- a history leads where the rules lead for its orders, and its answers are those that they state
+pub record As-stated {E : Type 0} (start : Taker E) (h : List Step) (m : Taker E) : Type 0 where
+  pub leads : m ≡ offered start (orders h)
+  pub told : replies h ≡ stated start (orders h) []
+  pub bytes : accepted h ≡ counted start (orders h) 0
+
+abbrev pub Histories-as-stated : {E : Type 0} → Taker E → Type 0
+Histories-as-stated {E} start = (h : List Step) (m : Taker E) → Reached start h m → As-stated start h m

@@ -60,11 +60,11 @@ module _ {E : Type 0} (m : Taker E) (xs : List ℕ) (i : ℕ) (n p : Taker E) (h
       record {
         here = here;
         none =
-          ap (sent-fault m) more-orders
-          ∙ sent-fault-append m (text-orders (take i xs)) one
-          ∙ ap (λ (x : Option Fault). or-else x (sent-fault (sent m (text-orders (take i xs))) one)) (h .none)
-          ∙ ap (λ (t : Taker E). sent-fault t one) (h .here)
-          ∙ ap (λ (x : Option Fault). or-else x None) v;
+            ap (sent-fault m) more-orders
+            ∙ sent-fault-append m (text-orders (take i xs)) one
+            ∙ ap (λ (x : Option Fault). or-else x (sent-fault (sent m (text-orders (take i xs))) one)) (h .none)
+            ∙ ap (λ (t : Taker E). sent-fault t one) (h .here)
+            ∙ ap (λ (x : Option Fault). or-else x None) v;
         law = λ k c. at k (split k c);
       }
     where

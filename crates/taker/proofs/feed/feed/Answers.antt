@@ -41,11 +41,10 @@ loop-i-again g c =
     let n = g .T·ParagraphTaker .means (c .loop-i .taker) in
     let b = getD xs i 0 in
     let h = subst (λ (r : List ℕ). Rest texts m n i xs r) (drop-more xs i 0 (c .loop-i-test .taken)) (c .loop-i .inv .0) in
-    let v = answer-ok tt _ _ (c .in-rest .ensures tt .answered) in
-    (
+    let v = answer-ok tt _ _ (c .in-rest .ensures tt .answered) in (
       rw (c .put .ensures .changed) (accepted texts m n i xs b _ h v),
       g .T·ParagraphTaker .chained (c .args .taker .now) (c .loop-i .taker) _ (c .loop-i .inv .1) (c .put .ensures .kept),
-      through-more m xs i n _ (c .loop-i .inv .2) (c .loop-i-test .taken) v (c .put .ensures .changed) (g .T·ParagraphTaker .lawful (c .put .last .self))
+      through-more m xs i n _ (c .loop-i .inv .2) (c .loop-i-test .taken) v (c .put .ensures .changed) (g .T·ParagraphTaker .lawful (c .put .last .self)),
     )
 
 pub returns : need.returns
@@ -69,9 +68,8 @@ returns g c =
 pub loop-i-holds : need.loop-i-holds
 loop-i-holds g c =
     let m = g .T·ParagraphTaker .means (c .args .taker .now) in
-    let xs = c .args .chunk .now in
-    (
+    let xs = c .args .chunk .now in (
       record { taken = omega arith; fault = refl; changed = refl },
       g .T·ParagraphTaker .same (c .args .taker .now),
-      through-none m xs (g .T·ParagraphTaker .lawful (c .args .taker .now))
+      through-none m xs (g .T·ParagraphTaker .lawful (c .args .taker .now)),
     )
