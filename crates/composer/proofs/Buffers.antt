@@ -11,11 +11,12 @@ use Rattle.std.specs.declared.option.Option.{Option}
 use Rattle.std.specs.declared.option.Option.the-variants.{Some, None}
 use Rattle.std.proofs.shelf.Lists.{drop-all}
 use Rattle.std.proofs.shelf.Tests.{cases-lt}
-use Rattle.folding.specs.Held.{held-with, is-dashes}
+use Rattle.folding.specs.Held.{Held, nothing, held-with, is-dashes}
 use Rattle.folding.specs.Incremental.{break-among, held-drop, held-join}
 use Rattle.composer.specs.declared.held_line.HeldLine.{HeldLine}
 use Rattle.composer.specs.Buffer.{held-by}
 use Rattle.composer.specs.State.{held-of}
+use Rattle.composer.specs.Taking.{counted}
 
 pub line-length : (h : HeldLine) → length (held-of h .line) ≡ h .len
 line-length h = let s = h .size in let f = h .fits in length-take-le (h .len) (h .bytes) (omega arith)
@@ -38,3 +39,9 @@ pub joined-by : (h : HeldLine) (b : ℕ) (xs : List ℕ) (o : Option ℕ) → ta
 joined-by h b xs o e q =
     let last = q ∙ ap (λ (n : ℕ). cond (break-among n (is-dashes (held-of h)) (n + h .spaces)) (Some (n + h .spaces)) (h .«last_break»)) (sym (line-length h)) in
     λ i. record { line = e i; last-break = last i; spaces = 0 }
+
+pub nothing-counted : (h : HeldLine) → held-of h ≡ nothing → h .lines ≡ 0 → counted h ≡ 0
+nothing-counted h e l =
+    let spaces : h .spaces ≡ 0 = ap (λ (x : Held). x .spaces) e in
+    let len : length (held-of h .line) ≡ 0 = ap (λ (x : Held). length (x .line)) e in
+    omega (arith, line-length h)

@@ -5,3 +5,6 @@ pub mod Buffers
 pub mod Sends
 pub mod Endings
 pub mod Taking
+pub mod Paragraphs
+pub mod Stirring
+pub mod Outcomes

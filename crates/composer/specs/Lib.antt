@@ -4,3 +4,7 @@ pub mod Sending
 pub mod Keeping
 pub mod State
 pub mod Taking
+pub mod Paragraphs
+pub mod Composers
+pub mod ParagraphLayer
+pub mod Law

@@ -4,6 +4,7 @@ use mathlib.Core.List.{List}
 use mathlib.Core.Bool.{false}
 use Prim.Native.Nat.{ℕ}
 use Rattle.std.specs.declared.result.Result.{Result}
+use Rattle.std.specs.declared.result.Result.the-variants.{Ok, Err}
 use Rattle.fault.specs.declared.fault.Fault.{Fault}
 use Rattle.fault.specs.Answers.{answer, raised}
 use Rattle.orders.specs.Lists.{sent, sent-fault}
@@ -16,3 +17,8 @@ pub record Sends (m n : Sink) (old new : List ℕ) (bs : List ℕ) (r : Result (
   pub answered : r ≡ answer tt (raised (sent-fault m (down bs false)))
   pub changed : n ≡ sent m (down bs false)
   pub behind : Behind (n .foot) old new
+
+-- an answer without its value
+abbrev pub done : {T F : Type 0} → Result T F → Result (Unit {0}) F
+done (Ok x) = Ok tt
+done (Err f) = Err f

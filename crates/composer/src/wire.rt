@@ -2,8 +2,13 @@
 ghost use mathlib.Core.Path.{_≡_};
 ghost use mathlib.Core.List.{[], _∷_, _++_};
 ghost use lib.ListN.{replicate};
-ghost use Rattle.fault.specs.Answers.{told};
+ghost use mathlib.Core.Bool.{true};
+ghost use Rattle.fault.specs.Answers.{told, answer, raised};
 ghost use Rattle.fault.specs.Kinds.{composer-fault};
+ghost use Rattle.orders.specs.Steps.{shown};
+ghost use Rattle.orders.specs.Lists.{sent, sent-fault};
+ghost use Rattle.orders.specs.Behind.{Behind};
+ghost use Rattle.sink.specs.Sink.{down};
 ghost use Rattle.folding.specs.Text.{space};
 ghost use Rattle.folding.specs.WireLine.{stuffing as stuffing-by, stuffed, wire-line};
 ghost use Rattle.composer.specs.Sending.{Sends};
@@ -76,4 +81,14 @@ pub(crate) fn send_line<S: ByteSink>(
     send_bytes(below, piece)?;
     send_repeated(below, 0x20, spaces)?;
     send_bytes(below, &[0x0D, 0x0A])
+}
+
+// The close, and the foot's length.
+pub(crate) fn send_close<S: ByteSink>(below: &mut S) -> Result<u32, ComposerFault>
+    ensures answered { λ r. ⌜ told composer-fault r ≡ answer (shown (S·ByteSink .means (now (below .exit)) .foot)) (raised (sent-fault (S·ByteSink .means (now (below .entry))) (down [] true))) ⌝ }
+    ensures changed { λ _. ⌜ S·ByteSink .means (now (below .exit)) ≡ sent (S·ByteSink .means (now (below .entry))) (down [] true) ⌝ }
+    ensures behind { λ _. ⌜ Behind (S·ByteSink .means (now (below .exit)) .foot) (S·ByteSink .memory (now (below .entry))) (S·ByteSink .memory (now (below .exit))) ⌝ }
+{
+    let n = from_below(below.close())?;
+    Ok(n)
 }

@@ -1,12 +1,16 @@
 // The line that is held: emptied, with a space more, without a piece, with a byte more.
 ghost use mathlib.Core.Path.{_≡_};
-ghost use mathlib.Core.Bool.{false};
+ghost use mathlib.Core.List.{[], _∷_, _++_};
+ghost use mathlib.Core.Bool.{false, not};
 ghost use Prim.Native.Nat.{_+_, _<_, _≤_};
 ghost use lib.ListN.{take, drop, length, getD};
+ghost use Rattle.std.specs.Options.{isSome};
+ghost use Rattle.folding.specs.Text.{settled-behind};
+ghost use Rattle.folding.specs.Folding.{folding};
 ghost use Rattle.folding.specs.WireLine.{width as line-width};
 ghost use Rattle.folding.specs.Held.{Valid, nothing, held-with, is-dashes, full};
 ghost use Rattle.folding.specs.Incremental.{held-space, held-drop, held-join, held-piece};
-ghost use Rattle.composer.specs.State.{held-of};
+ghost use Rattle.composer.specs.State.{held-of, held-text};
 use crate::held_line::HeldLine;
 use crate::held_line::breaks::break_behind;
 use crate::held_line::breaks::is_two_dashes;
@@ -110,6 +114,19 @@ impl HeldLine {
         ensures { λ r. ⌜ r ≡ full (now (self .entry) .depth) (held-of (now (self .entry))) ⌝ }
     {
         self.last_break.is_none() && self.line_width() >= 998
+    }
+
+    // The text with the byte, settled, has no folding; a space is never refused.
+    pub(crate) fn refuses(&self, b: u8) -> bool
+        ensures { λ r. ⌜ r ≡ not (isSome (folding (now (self .entry) .depth) (now (self .entry) .width) (settled-behind (now (self .entry) .lines) (held-text (held-of (now (self .entry))) ++ b ∷ [])))) ⌝ }
+    {
+        b != 0x20 && self.is_full()
+    }
+
+    pub(crate) fn lines(&self) -> u32
+        ensures { λ r. ⌜ r ≡ now (self .entry) .lines ⌝ }
+    {
+        self.lines
     }
 
     // Without a piece, which was sent as a line.
