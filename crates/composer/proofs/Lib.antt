@@ -1,0 +1,10 @@
+pub mod Props
+pub mod Holding
+pub mod Firsts
+pub mod Buffers
+pub mod Sends
+pub mod Endings
+pub mod Taking
+pub mod Paragraphs
+pub mod Stirring
+pub mod Outcomes

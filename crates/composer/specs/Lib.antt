@@ -1,0 +1,10 @@
+pub mod Buffer
+pub mod Machine
+pub mod Sending
+pub mod Keeping
+pub mod State
+pub mod Taking
+pub mod Paragraphs
+pub mod Composers
+pub mod ParagraphLayer
+pub mod Law
