@@ -1,0 +1,2 @@
+// The lines of a plain text, handed to a paragraph taker as paragraphs.
+pub mod paragraph;
