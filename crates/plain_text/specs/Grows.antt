@@ -23,3 +23,7 @@ pub record Handed {E : Type 0} (m n : Taker E) (d : ℕ) (t : List ℕ) (r : Res
   pub steps : List Step
   pub grows : Grows m n steps
   pub accepted : (lines : ℕ) → r ≡ Ok lines → (k : ℕ) × (steps ≡ whole d t k lines)
+
+-- by some steps
+abbrev pub Grows-some : {E : Type 0} → Taker E → Taker E → Type 0
+Grows-some m n = (k : List Step) × Grows m n k
