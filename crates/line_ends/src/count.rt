@@ -1,10 +1,10 @@
 // Counts over the lines of a text.
-ghost use Prim.Native.Nat.{_≤_};
+ghost use Prim.Native.Nat.{_≤_, _<_, _^_, max};
 ghost use mathlib.Core.Path.{_≡_};
 ghost use mathlib.Core.Bool.{_&&_};
 ghost use lib.Dec.{eqb};
 ghost use lib.ListN.{length};
-ghost use Rattle.line_ends.specs.LineEnds.{one-if, line-feeds, leading-dots};
+ghost use Rattle.line_ends.specs.LineEnds.{one-if, line-feeds, leading-dots, on-byte, widest};
 
 fn one_for(test: bool) -> usize
     ensures { λ r. ⌜ r ≡ one-if test ⌝ }
@@ -41,4 +41,36 @@ pub fn count_leading_dots(text: &[u8]) -> usize
         before = *b;
     }
     n
+}
+
+fn wider(width: usize, widest: usize) -> usize
+    ensures { λ r. ⌜ r ≡ max width widest ⌝ }
+{
+    if width > widest { width } else { widest }
+}
+
+// The width of the line so far and of the widest line, one byte on.
+fn after_byte(width: usize, best: usize, b: u8) -> (usize, usize)
+    requires { ⌜ width < 2 ^ 63 ⌝ }
+    ensures { λ r. ⌜ r ≡ on-byte width best b ⌝ }
+{
+    match b {
+        0x0A => (0, wider(width, best)),
+        0x0D => (width, best),
+        _ => (width + 1, best),
+    }
+}
+
+// The widest line: its bytes but for 0D and 0A.
+pub fn widest_line(text: &[u8]) -> usize
+    ensures { λ r. ⌜ r ≡ widest 0 0 (now (text .entry)) ⌝ }
+{
+    let mut width: usize = 0;
+    let mut best: usize = 0;
+    for b in text {
+        let (w, m) = after_byte(width, best, *b);
+        width = w;
+        best = m;
+    }
+    wider(width, best)
 }
