@@ -88,7 +88,11 @@ pub(crate) fn line_at(text: &[u8], from: usize, depths: Depths) -> Line
         },
         Depths::Marks => {
             let marks = behind_marks(text, from, end);
-            let start = if marks < end && text[marks] == 0x20 { marks + 1 } else { marks };
+            let start = if marks < end && text[marks] == 0x20 {
+                marks + 1
+            } else {
+                marks
+            };
             Line {
                 depth: capped(marks - from),
                 start,

@@ -16,10 +16,9 @@ loop-b-again c =
     let r = c .after-byte-w .ensures in
     let few = width-more w m (getD xs i 0) in
     let e = ap (λ (p : ℕ × ℕ). p .0) r in
-    let h = c .loop-b .inv .0 in
-    (
+    let h = c .loop-b .inv .0 in (
       omega arith,
-      (λ j. widest (r j .0) (r j .1) (drop (i + 1) xs)) ∙ sym (at-drop-more (widest w m) xs i 0 (c .loop-b-test .taken)) ∙ c .loop-b .inv .1
+      (λ j. widest (r j .0) (r j .1) (drop (i + 1) xs)) ∙ sym (at-drop-more (widest w m) xs i 0 (c .loop-b-test .taken)) ∙ c .loop-b .inv .1,
     )
 
 pub returns : need.returns

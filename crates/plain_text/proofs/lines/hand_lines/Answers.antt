@@ -19,8 +19,7 @@ loop-at-again g c =
     let a = c .args .taker .now in
     let b = c .loop-at .taker in
     let d = c .hand-paragraph .last .taker in
-    let h = c .hand-paragraph .ensures in
-    (
+    let h = c .hand-paragraph .ensures in (
       grows-on (means a) (means b) (means d) (h .handed .steps) (c .loop-at .inv .0) (h .handed .grows),
-      g .T·ParagraphTaker .chained a b d (c .loop-at .inv .1) (h .kept)
+      g .T·ParagraphTaker .chained a b d (c .loop-at .inv .1) (h .kept),
     )

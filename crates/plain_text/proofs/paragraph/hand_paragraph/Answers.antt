@@ -49,7 +49,7 @@ returns-in-None g c =
       handed = record {
         steps = asked (to-end k) r ∷ fed bs (length bs) None ∷ asked (to-open (c .args .depth)) (Ok k) ∷ [];
         grows = λ s h t.
-          asks (feeds (asks t (to-open (c .args .depth)) (Ok k) (o .answered) (o .changed) (lawful b)) bs (length bs) None (sym all) (sym none) (f .changed) (subst (λ (n : ℕ). Lawful-through m bs n) (f .taken ∙ all) (f .lawful)) (lawful d)) (to-end k) r (c .end .ensures .answered) (c .end .ensures .changed) (lawful (c .end .last .taker));
+            asks (feeds (asks t (to-open (c .args .depth)) (Ok k) (o .answered) (o .changed) (lawful b)) bs (length bs) None (sym all) (sym none) (f .changed) (subst (λ (n : ℕ). Lawful-through m bs n) (f .taken ∙ all) (f .lawful)) (lawful d)) (to-end k) r (c .end .ensures .answered) (c .end .ensures .changed) (lawful (c .end .last .taker));
         accepted = λ l q. (k, ap (λ (x : Result ℕ Fault). asked (to-end k) x ∷ fed bs (length bs) None ∷ asked (to-open (c .args .depth)) (Ok k) ∷ []) q);
       };
       kept = g .T·ParagraphTaker .chained a d (c .end .last .taker) (g .T·ParagraphTaker .chained a b d (o .kept) (f .kept)) (c .end .ensures .kept);
@@ -72,7 +72,7 @@ returns-in-Some g c =
       handed = record {
         steps = asked (to-give-up k) (Err (g .TakerFault·Refusal .means (c .give-up .result))) ∷ fed bs n why ∷ asked (to-open (c .args .depth)) (Ok k) ∷ [];
         grows = λ s h t.
-          asks (feeds (asks t (to-open (c .args .depth)) (Ok k) (o .answered) (o .changed) (lawful b)) bs n why (f .taken) (f .fault) (f .changed) (f .lawful) (lawful d)) (to-give-up k) _ (sym (ap (answer (value (g .T·ParagraphTaker .means d) (gives-up k))) (up .answered))) (up .changed) (lawful (c .give-up .last .taker));
+            asks (feeds (asks t (to-open (c .args .depth)) (Ok k) (o .answered) (o .changed) (lawful b)) bs n why (f .taken) (f .fault) (f .changed) (f .lawful) (lawful d)) (to-give-up k) _ (sym (ap (answer (value (g .T·ParagraphTaker .means d) (gives-up k))) (up .answered))) (up .changed) (lawful (c .give-up .last .taker));
         accepted = λ l q. let z : _≡_ {A = ℕ} 0 1 = cc in absurd (omega arith);
       };
       kept = g .T·ParagraphTaker .chained a d (c .give-up .last .taker) (g .T·ParagraphTaker .chained a b d (o .kept) (f .kept)) (up .kept);

@@ -1,0 +1,2 @@
+// A plain text composed into memory, with or without the dot stage.
+pub mod composed;
