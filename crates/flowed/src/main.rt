@@ -1,7 +1,10 @@
-// The program: support mail through the dot stage and back.
+// The program: the text of support mail composed, and carried through the dot stage and back.
 mod carry_body;
+mod compose_mail;
+mod compose_options;
 mod files;
 mod help;
+mod mail_report;
 mod options;
 mod report;
 mod trouble;
@@ -20,6 +23,7 @@ fn run(rt: &LibcRuntime) -> Result<(), Trouble> {
             Ok(())
         }
         Command::Carry(options) => carry_body::run(rt, &options),
+        Command::Compose(options) => compose_mail::run(rt, &options),
     }
 }
 

@@ -1,4 +1,6 @@
 // The command line.
+use crate::compose_options::ComposeOptions;
+use crate::compose_options::parse_compose;
 use crate::trouble::Trouble;
 use crate::trouble::TroubleFromAlloc;
 use crate::trouble::TroubleFromIo;
@@ -20,6 +22,7 @@ pub struct CarryOptions {
 pub enum Command {
     Help,
     Carry(CarryOptions),
+    Compose(ComposeOptions),
 }
 
 pub fn from_command_line(rt: &LibcRuntime) -> Result<Command, Trouble> {
@@ -38,11 +41,12 @@ fn parse(heap: Global, words: &[String]) -> Result<Command, Trouble> {
     match first.as_str() {
         "--help" | "-h" | "help" => Ok(Command::Help),
         "carry" => parse_carry(heap, rest),
+        "compose" => parse_compose(heap, rest),
         other => usage(heap, "unknown command ", other),
     }
 }
 
-fn usage(heap: Global, what: &str, word: &str) -> Result<Command, Trouble> {
+pub(crate) fn usage(heap: Global, what: &str, word: &str) -> Result<Command, Trouble> {
     Err(Trouble::Usage(format!(heap, "{what}{word}")?))
 }
 

@@ -14,6 +14,8 @@ pub enum Trouble {
     Memory,
     // the body was refused, as the report says; whether its line ends were turned into CRLF
     Body(bool),
+    // the mail was refused, as the report says
+    Mail,
 }
 
 pub impl From<AllocError> for Trouble as TroubleFromAlloc {
@@ -41,6 +43,7 @@ pub impl fmt::Display for Trouble as TroubleDisplay {
             Trouble::File(name, error) => write!(f, "{name}: {error}"),
             Trouble::Io(error) => write!(f, "{error}"),
             Trouble::Memory => write!(f, "no memory is left"),
+            Trouble::Mail => write!(f, "the mail was not composed; nothing was written"),
             Trouble::Body(true) => write!(f, "the body was not carried"),
             Trouble::Body(false) => {
                 write!(
