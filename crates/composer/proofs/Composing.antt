@@ -33,11 +33,11 @@ use Rattle.folding.specs.Folded.{Folded, pieces}
 use Rattle.folding.specs.Folding.{folding}
 use Rattle.folding.proofs.Constructors.{same-some, some-none}
 use Rattle.folding.proofs.Agreeing.{settled-none}
-use Rattle.composer.specs.Machine.{Composing, limit, barred, refuse-if, unfoldable-with, text-refusal, behind-lines, bytes-of, state-on, moves, unless, composer, end-tells, start}
+use Rattle.composer.specs.Machine.{Composing, limit, barred, refuse-if, lacks-folding, text-refusal, behind-lines, bytes-of, next-state, moves, unless, composer, end-tells, start}
 use Rattle.composer.specs.Composers.{good-start, born, new-means}
 use Rattle.composer.specs.Mails.{Paragraph, Writable, begun, given, wires, text-length, as-place, Sends-ended, Sends-open, Composes}
 use Rattle.composer.proofs.Histories.{Steps, steps-append, steps-wire, steps-whole, steps-goes, steps-going, steps-state, steps-run, place-after}
-use Rattle.composer.proofs.TextSteps.{text-state, open-at, unfoldable-is, text-step, end-folds}
+use Rattle.composer.proofs.TextSteps.{text-state, open-at, lacks-folding-is, text-step, end-folds}
 use Rattle.composer.proofs.MailSteps.{between-at, begun-steps, mail-steps}
 
 -- a fault from below is not of level 0
@@ -83,7 +83,7 @@ module _ (w : ℕ) (narrow : w ≤ 998) (m : Sink) where
   new = layer-means composer m (start w) Running 0
 
   module _ (ps : List Paragraph) (cs : Text) (oks : All Writable ps) (q : wires w ps ≡ Some cs) where
-    ended : length ps ≤ limit → Sends-ended w m new ps cs
+    ended : length ps ≤ limit → Sends-ended m new ps cs
     ended few =
         let x = mail-steps w narrow ps 0 cs oks (omega arith) q in
         record {
@@ -118,10 +118,10 @@ module _ (w : ℕ) (narrow : w ≤ 998) (m : Sink) where
 
           to : folding (p .depth) w (settled (p .text ++ b ∷ [])) ≡ None → new .adds os (texts b) ≡ record { items = []; fault = Some (own NoFolding Composer here-place) }
           to n =
-              let folds : unfoldable-with w (text-state (p .depth) (p .text) f) b ≡ true = unfoldable-is (p .depth) w (ok .shallow) (p .text) f e b ∙ ap (λ (o : Option Folded). not (isSome o)) n in
+              let folds : lacks-folding w (text-state (p .depth) (p .text) f) b ≡ true = lacks-folding-is (p .depth) w (ok .shallow) (p .text) f e b ∙ ap (λ (o : Option Folded). not (isSome o)) n in
               let under : leb limit (length (p .text)) ≡ false = lt-leb limit (length (p .text)) short in
               let stop : text-refusal w b (Some (text-state (p .depth) (p .text) f)) ≡ Some NoFolding = λ i. refuse-if (text i) BarredByte (refuse-if (under i) OverLimit (refuse-if (folds i) NoFolding None)) in
-              adds ∙ ap (λ (r : Option Cause). moved composer (unless r (sends (bytes-of here (texts b)) (state-on here (texts b)))) false here-place (later-all (down sent false) (m .adds))) stop
+              adds ∙ ap (λ (r : Option Cause). moved composer (unless r (sends (bytes-of here (texts b)) (next-state here (texts b)))) false here-place (later-all (down sent false) (m .adds))) stop
 
           from : new .adds os (texts b) ≡ record { items = []; fault = Some (own NoFolding Composer here-place) } → folding (p .depth) w (settled (p .text ++ b ∷ [])) ≡ None
           from h = settled-none (p .depth) w (ok .shallow) (p .text ++ b ∷ []) .1 (go (folding (p .depth) w (trimmed (p .text ++ b ∷ []))) refl)

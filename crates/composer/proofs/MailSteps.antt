@@ -21,7 +21,7 @@ use Rattle.folding.specs.Folding.{folding, wire}
 use Rattle.folding.proofs.Constructors.{same-some, some-none}
 use Rattle.folding.proofs.Agreeing.{settled-none}
 use Rattle.folding.proofs.WireLines.{wire-lines-append}
-use Rattle.composer.specs.Machine.{Composing, deepest, limit, refuse-if, behind-lines, bytes-of, state-on, moves, unless, composer}
+use Rattle.composer.specs.Machine.{Composing, deepest, limit, refuse-if, behind-lines, bytes-of, next-state, moves, unless, composer}
 use Rattle.composer.specs.Mails.{Paragraph, Writable, begun, given, then-wire, wires}
 use Rattle.composer.proofs.Histories.{Steps, step, steps-append}
 use Rattle.composer.proofs.Histories as histories
@@ -36,12 +36,12 @@ open-step w n d small few =
     let shallow = le-ltb deepest d small in
     let under = lt-leb limit n few in
     let none : refuse-if (ltb deepest d) TooDeep (refuse-if (leb limit n) OverLimit None) ≡ None = λ i. refuse-if (shallow i) TooDeep (refuse-if (under i) OverLimit None) in
-    ap (λ (x : Option Cause). unless x (sends [] (state-on (between-at w n) (opens d)))) none
+    ap (λ (x : Option Cause). unless x (sends [] (next-state (between-at w n) (opens d)))) none
 
 pub end-step : (w n d : ℕ) (t : Text) (f : Folded) → moves (open-at w n d t f) (ends n) ≡ sends (wire-line d (settled-behind (length (f .flowed)) (behind-lines (f .flowed) t))) (between-at w n)
 end-step w n d t f =
     let s = open-at w n d t f in
-    ap (λ (x : Bool). unless (refuse-if (not x) WrongNumber None) (sends (bytes-of s (ends n)) (state-on s (ends n)))) (eq-eqb n n refl)
+    ap (λ (x : Bool). unless (refuse-if (not x) WrongNumber None) (sends (bytes-of s (ends n)) (next-state s (ends n)))) (eq-eqb n n refl)
 
 module _ (w : ℕ) (narrow : w ≤ 998) where
   -- a paragraph opened, with its text so far

@@ -30,7 +30,7 @@ use Rattle.folding.proofs.Stays.{lines-stay, held-folds-on}
 use Rattle.folding.proofs.Ending.{ends-settle, ends-track}
 use Rattle.folding.proofs.Agreeing.{settled-none, text-tracks}
 use Rattle.folding.proofs.WireLines.{wire-lines-append}
-use Rattle.composer.specs.Machine.{Within, Composing, limit, barred, refuse-if, unfoldable-with, text-refusal, flowed-of, finished-lines, behind-lines, bytes-of, state-on, moves, unless, composer}
+use Rattle.composer.specs.Machine.{Within, Composing, limit, barred, refuse-if, lacks-folding, text-refusal, flowed-of, finished-lines, behind-lines, bytes-of, next-state, moves, unless, composer}
 use Rattle.composer.proofs.Holding.{last-behind}
 use Rattle.composer.proofs.Histories.{Steps, step}
 use Rattle.composer.proofs.Histories as histories
@@ -94,8 +94,8 @@ module _ (d w : ℕ) (small : d ≤ 100) where
             }
 
     -- a byte is refused for want of a folding exactly where the text through it, settled, has none
-    pub unfoldable-is : (b : ℕ) → unfoldable-with w (text-state d t f) b ≡ not (isSome (folding d w (settled (t ++ b ∷ []))))
-    unfoldable-is b = ap not (go (folding d w (settled-behind (length (f .flowed)) (behind-lines (f .flowed) t ++ b ∷ []))) ∙ ap isSome (sym (folds-on .at-end (b ∷ []))))
+    pub lacks-folding-is : (b : ℕ) → lacks-folding w (text-state d t f) b ≡ not (isSome (folding d w (settled (t ++ b ∷ []))))
+    lacks-folding-is b = ap not (go (folding d w (settled-behind (length (f .flowed)) (behind-lines (f .flowed) t ++ b ∷ []))) ∙ ap isSome (sym (folds-on .at-end (b ∷ []))))
       where
         go : (o : Option Folded) → isSome o ≡ isSome (after-lines (f .flowed) o)
         go None = refl
@@ -115,7 +115,7 @@ module _ (d w : ℕ) (small : d ≤ 100) where
 
       allowed : text-refusal w b (Some (text-state d t f)) ≡ None
       allowed =
-          let folds : unfoldable-with w (text-state d t f) b ≡ false = unfoldable-is b ∙ ap not foldable in
+          let folds : lacks-folding w (text-state d t f) b ≡ false = lacks-folding-is b ∙ ap not foldable in
           let under : leb limit (length t) ≡ false = lt-leb limit (length t) few in
           λ i. refuse-if (text i) BarredByte (refuse-if (under i) OverLimit (refuse-if (folds i) NoFolding None))
 
@@ -124,7 +124,7 @@ module _ (d w : ℕ) (small : d ≤ 100) where
           let k = onward b g q in
           let lines : length (f .flowed) + length ps ≡ length (g .flowed) = sym (ap length (k .lines) ∙ length-append (f .flowed) ps) in
           let bytes : length t + 1 ≡ length (t ++ b ∷ []) = sym (length-append t (b ∷ [])) in
-          ap (λ (x : Option Cause). unless x (sends (bytes-of (open-at w n d t f) (texts b)) (state-on (open-at w n d t f) (texts b)))) allowed
+          ap (λ (x : Option Cause). unless x (sends (bytes-of (open-at w n d t f) (texts b)) (next-state (open-at w n d t f) (texts b)))) allowed
           ∙ (λ i. sends (wire-lines d ps) (record { width = w; opened = n; paragraph = Some (record { depth = d; held = sym (k .left) i; lines = lines i; bytes = bytes i }) }))
 
   -- the bytes of a text

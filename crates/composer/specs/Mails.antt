@@ -59,7 +59,7 @@ abbrev pub as-place : ℕ → ℕ
 as-place n = min n most
 
 -- c adds, over what m adds, for ended paragraphs their wire bytes
-pub record Sends-ended (w : ℕ) (m : Sink) (c : Taker ℕ) (ps : List Paragraph) (cs : Text) : Type 0 where
+pub record Sends-ended (m : Sink) (c : Taker ℕ) (ps : List Paragraph) (cs : Text) : Type 0 where
   pub so-far : addition (c .adds) (given 1 ps) ≡ lifted (addition (m .adds) (down cs false))
   -- and with a finish the close behind them
   pub finished : addition (c .adds) (given 1 ps ++ finishes ∷ []) ≡ lifted (addition (m .adds) (down cs true))
@@ -74,6 +74,6 @@ pub record Sends-open (w : ℕ) (m : Sink) (c : Taker ℕ) (ps : List Paragraph)
 
 -- a new composer of width w over the sink m
 pub record Composes (w : ℕ) (m : Sink) (c : Taker ℕ) : Type 0 where
-  pub ended : (ps : List Paragraph) (cs : Text) → All Writable ps → length ps ≤ limit → wires w ps ≡ Some cs → Sends-ended w m c ps cs
+  pub ended : (ps : List Paragraph) (cs : Text) → All Writable ps → length ps ≤ limit → wires w ps ≡ Some cs → Sends-ended m c ps cs
   pub unended : (ps : List Paragraph) (cs : Text) → All Writable ps → length ps < limit → wires w ps ≡ Some cs →
       (p : Paragraph) (f : Folded) → Writable p → folding (p .depth) w (trimmed (p .text)) ≡ Some f → Sends-open w m c ps cs p f

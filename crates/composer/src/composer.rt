@@ -13,7 +13,7 @@ use orders::phase::Phase;
 use sink::byte_sink::ByteSink;
 
 mod refusals;
-mod taker;
+pub mod taker;
 
 #[derive(Drop)]
 pub struct Composer<S> {
