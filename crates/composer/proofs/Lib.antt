@@ -8,3 +8,7 @@ pub mod Taking
 pub mod Paragraphs
 pub mod Stirring
 pub mod Outcomes
+pub mod Histories
+pub mod TextSteps
+pub mod MailSteps
+pub mod Composing

@@ -29,7 +29,7 @@ use Rattle.layer.proofs.ByPhase.{in-closed, in-shut, in-mild, in-own, in-ok, in
 use Rattle.folding.proofs.Constructors.{same-some, some-none}
 use Rattle.composer.specs.declared.composer.Composer.{Composer}
 use Rattle.composer.specs.Keeping.{Keeps, keeps-same}
-use Rattle.composer.specs.Machine.{Within, Composing, refuse-if, end-refusal, give-up-refusal, refusal, bytes-of, state-on, moves, unless, composer}
+use Rattle.composer.specs.Machine.{Within, Composing, refuse-if, end-refusal, give-up-refusal, refusal, bytes-of, next-state, moves, unless, composer}
 use Rattle.composer.specs.Composers.{state-of, means-of, over-fault, refused-phase}
 use Rattle.composer.proofs.Sends.{after-grows}
 use Rattle.composer.proofs.Stirring.{composer-stirs}
@@ -67,28 +67,28 @@ module _ (m : Sink) (s : Composing) (ph : Phase ComposerFault) (n : ℕ) (o : Or
     was-refused c e r f = go (leaves c) refl
       where
         stop : moves s o ≡ stops c
-        stop = ap (λ (x : Option Cause). unless x (sends (bytes-of s o) (state-on s o))) e
+        stop = ap (λ (x : Option Cause). unless x (sends (bytes-of s o) (next-state s o))) e
 
         go : (x : Bool) → leaves c ≡ x → Did here (layer-means composer m s (phased composer-fault (cond x ph (Shut r))) n) o (Some (composer-fault r))
         go true q = rw f (in-mild composer composer-fault m s ph n o run c stop q)
         go false q = in-own composer composer-fault m s ph n o run c stop q (composer-fault r) f s
 
     module _ (none : refusal s o ≡ None) (m′ : Sink) (r : m′ ≡ sent m (down (bytes-of s o) (closes o))) where
-      on : moves s o ≡ sends (bytes-of s o) (state-on s o)
-      on = ap (λ (x : Option Cause). unless x (sends (bytes-of s o) (state-on s o))) none
+      on : moves s o ≡ sends (bytes-of s o) (next-state s o)
+      on = ap (λ (x : Option Cause). unless x (sends (bytes-of s o) (next-state s o))) none
 
       abbrev fault : Option Fault
       fault = raised (sent-fault m (down (bytes-of s o) (closes o)))
 
       -- accepted, also below
-      pub was-accepted : fault ≡ None → (s′ : Composing) → s′ ≡ state-on s o → (ph′ : Phase Fault) → ph′ ≡ gone (closes o) → (n′ : ℕ) → n′ ≡ place-on (counts o) n → Did here (layer-means composer m′ s′ ph′ n′) o None
+      pub was-accepted : fault ≡ None → (s′ : Composing) → s′ ≡ next-state s o → (ph′ : Phase Fault) → ph′ ≡ gone (closes o) → (n′ : ℕ) → n′ ≡ place-on (counts o) n → Did here (layer-means composer m′ s′ ph′ n′) o None
       was-accepted h s′ q ph′ p n′ t =
-          let d = in-ok composer composer-fault m s ph n o run (bytes-of s o) (state-on s o) on m′ r composer-stirs h ph′ p n′ t in
+          let d = in-ok composer composer-fault m s ph n o run (bytes-of s o) (next-state s o) on m′ r composer-stirs h ph′ p n′ t in
           record { tells = d .tells; leads = ap (λ (x : Composing). layer-means composer m′ x ph′ n′) q ∙ d .leads }
 
       -- refused below
       pub was-stopped : (f : Fault) → fault ≡ Some f → (u : Composing) → Did here (layer-means composer m′ u (Shut f) n) o (Some f)
-      was-stopped f h u = in-err composer composer-fault m s ph n o run (bytes-of s o) (state-on s o) on m′ r f h u
+      was-stopped f h u = in-err composer composer-fault m s ph n o run (bytes-of s o) (next-state s o) on m′ r f h u
 
 -- giving up, with the right number
 pub up-cause : (i n : ℕ) (p : Option Within) (r : Option Cause) → r ≡ end-refusal i n p → (x : Cause) → x ≡ valueOr r GivenUp → give-up-refusal i n p ≡ Some x

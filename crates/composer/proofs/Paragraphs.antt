@@ -23,7 +23,7 @@ use Rattle.folding.proofs.Ending.{ends-settle}
 use Rattle.folding.proofs.Constructors.{some-none}
 use Rattle.composer.specs.declared.held_line.HeldLine.{HeldLine}
 use Rattle.composer.specs.declared.paragraph.Paragraph.{Paragraph}
-use Rattle.composer.specs.Machine.{Within, limit, barred, refuse-if, unfoldable-with, text-refusal, text-bytes, on-text, end-bytes, end-tells}
+use Rattle.composer.specs.Machine.{Within, limit, barred, refuse-if, lacks-folding, text-refusal, text-bytes, on-text, end-bytes, end-tells}
 use Rattle.composer.specs.State.{held-of, held-text}
 use Rattle.composer.specs.Taking.{Takes, lines-with}
 use Rattle.composer.specs.Paragraphs.{opened-of, within-of}
@@ -39,13 +39,13 @@ refuses-not false c next e = (refl, e)
 pub record Allowed (w b : ℕ) (p : Within) : Type 0 where
   pub text : barred b ≡ false
   pub few : p .bytes < limit
-  pub folds : unfoldable-with w p b ≡ false
+  pub folds : lacks-folding w p b ≡ false
 
 pub allowed : (w b : ℕ) (p : Within) → text-refusal w b (Some p) ≡ None → Allowed w b p
 allowed w b p e =
     let one = refuses-not (barred b) BarredByte _ e in
     let two = refuses-not (leb limit (p .bytes)) OverLimit _ (one .1) in
-    let three = refuses-not (unfoldable-with w p b) NoFolding None (two .1) in
+    let three = refuses-not (lacks-folding w p b) NoFolding None (two .1) in
     record { text = one .0; few = leb-false limit (p .bytes) (two .0); folds = three .0 }
 
 module _ (p : Paragraph) (b : ℕ) (e : text-refusal (p .held .width) b (within-of p) ≡ None) where

@@ -16,18 +16,18 @@ use Rattle.layer.specs.Layer.{Stirs, sends, stops}
 use Rattle.folding.specs.Text.{Text, settled-behind}
 use Rattle.folding.specs.WireLine.{bare-line, wire-line, crlf}
 use Rattle.folding.proofs.Constructors.{some-none}
-use Rattle.composer.specs.Machine.{Within, Composing, refuse-if, text-refusal, end-refusal, give-up-refusal, refusal, on-text, end-bytes, bytes-of, state-on, unless, between, composer}
+use Rattle.composer.specs.Machine.{Within, Composing, refuse-if, text-refusal, end-refusal, give-up-refusal, refusal, on-text, end-bytes, bytes-of, next-state, unless, between, composer}
 
 -- what an accepted order sent, and what it left
 pub record Accepted (s : Composing) (o : Order) (bs : List ℕ) (t : Composing) : Type 0 where
   pub allowed : refusal s o ≡ None
   pub bytes : bytes-of s o ≡ bs
-  pub state : state-on s o ≡ t
+  pub state : next-state s o ≡ t
 
 pub accepted : (s : Composing) (o : Order) (bs : List ℕ) (t : Composing) → composer .move s o ≡ sends bs t → Accepted s o bs t
 accepted s o bs t e = go (refusal s o) refl e
   where
-    go : (r : Option Cause) → refusal s o ≡ r → unless r (sends (bytes-of s o) (state-on s o)) ≡ sends bs t → Accepted s o bs t
+    go : (r : Option Cause) → refusal s o ≡ r → unless r (sends (bytes-of s o) (next-state s o)) ≡ sends bs t → Accepted s o bs t
     go None q h = record { allowed = q; bytes = cc; state = cc }
     go (Some c) q h = let z : _≡_ {A = ℕ} 0 1 = cc in absurd (omega arith)
 

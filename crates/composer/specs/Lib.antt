@@ -6,5 +6,6 @@ pub mod State
 pub mod Taking
 pub mod Paragraphs
 pub mod Composers
+pub mod Mails
 pub mod ParagraphLayer
 pub mod Law

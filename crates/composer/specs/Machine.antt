@@ -55,12 +55,12 @@ open-refusal d n (Some p) = Some ParagraphOpen
 open-refusal d n None = refuse-if (ltb deepest d) TooDeep (refuse-if (leb limit n) OverLimit None)
 
 -- the text through the byte, settled, has no folding
-abbrev pub unfoldable-with : ℕ → Within → ℕ → Bool
-unfoldable-with w p b = not (isSome (folding (p .depth) w (settled-behind (p .lines) (p .held ++ b ∷ []))))
+abbrev pub lacks-folding : ℕ → Within → ℕ → Bool
+lacks-folding w p b = not (isSome (folding (p .depth) w (settled-behind (p .lines) (p .held ++ b ∷ []))))
 
 abbrev pub text-refusal : ℕ → ℕ → Option Within → Option Cause
 text-refusal w b None = Some NoParagraph
-text-refusal w b (Some p) = refuse-if (barred b) BarredByte (refuse-if (leb limit (p .bytes)) OverLimit (refuse-if (unfoldable-with w p b) NoFolding None))
+text-refusal w b (Some p) = refuse-if (barred b) BarredByte (refuse-if (leb limit (p .bytes)) OverLimit (refuse-if (lacks-folding w p b) NoFolding None))
 
 abbrev pub end-refusal : ℕ → ℕ → Option Within → Option Cause
 end-refusal i n None = Some NoParagraph
@@ -130,12 +130,12 @@ bytes-of s (gives-up i) = []
 bytes-of s finishes = []
 
 -- and what it leaves
-abbrev pub state-on : Composing → Order → Composing
-state-on s (opens d) = record { width = s .width; opened = s .opened + 1; paragraph = Some (begun d) }
-state-on s (texts b) = record { width = s .width; opened = s .opened; paragraph = on-text (s .width) b (s .paragraph) }
-state-on s (ends i) = record { width = s .width; opened = s .opened; paragraph = None }
-state-on s (gives-up i) = s
-state-on s finishes = s
+abbrev pub next-state : Composing → Order → Composing
+next-state s (opens d) = record { width = s .width; opened = s .opened + 1; paragraph = Some (begun d) }
+next-state s (texts b) = record { width = s .width; opened = s .opened; paragraph = on-text (s .width) b (s .paragraph) }
+next-state s (ends i) = record { width = s .width; opened = s .opened; paragraph = None }
+next-state s (gives-up i) = s
+next-state s finishes = s
 
 -- and what it answers: an open the paragraph's number, an end the number of lines
 abbrev pub tells : Composing → Order → ℕ
@@ -150,7 +150,7 @@ unless (Some c) m = stops c
 unless None m = m
 
 abbrev pub moves : Composing → Order → Move Composing
-moves s o = unless (refusal s o) (sends (bytes-of s o) (state-on s o))
+moves s o = unless (refusal s o) (sends (bytes-of s o) (next-state s o))
 
 abbrev pub between : Composing → Bool
 between s = not (isSome (s .paragraph))

@@ -18,6 +18,10 @@ pub record Sends (m n : Sink) (old new : List ℕ) (bs : List ℕ) (r : Result (
   pub changed : n ≡ sent m (down bs false)
   pub behind : Behind (n .foot) old new
 
+-- the same of a sink's value before and after
+abbrev pub Went-down : {S : Type 0} → (S → Sink) → (S → List ℕ) → S → S → List ℕ → Result (Unit {0}) Fault → Type 0
+Went-down means memory a b bs r = Sends (means a) (means b) (memory a) (memory b) bs r
+
 -- an answer without its value
 abbrev pub done : {T F : Type 0} → Result T F → Result (Unit {0}) F
 done (Ok x) = Ok tt

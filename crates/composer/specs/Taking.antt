@@ -33,3 +33,7 @@ pub record Takes (h j : HeldLine) (b : ℕ) (m n : Sink) (old new : List ℕ) (r
   pub few : counted j ≤ counted h + 1
   pub held : r ≡ Ok tt → held-text (held-of j) ≡ behind-lines (lines-with h b) (text-with h b)
   pub lines : r ≡ Ok tt → j .lines ≡ h .lines + length (lines-with h b)
+
+-- the same of a sink's value before and after
+abbrev pub Took-down : {S : Type 0} → HeldLine → HeldLine → ℕ → (S → Sink) → (S → List ℕ) → S → S → Result (Unit {0}) Fault → Type 0
+Took-down h j b means memory x y r = Takes h j b (means x) (means y) (memory x) (memory y) r

@@ -1,7 +1,10 @@
 // The composer: paragraphs go down as wire lines.
 ghost use mathlib.Core.Path.{_≡_};
+ghost use mathlib.Core.Bool.{true};
+ghost use Prim.Native.Nat.{_≤_};
 ghost use Rattle.fault.specs.Kinds.{composer-fault};
 ghost use Rattle.orders.specs.Phases.{phased};
+ghost use Rattle.composer.specs.Mails.{Composes};
 ghost use Rattle.composer.specs.Composers.{means-of, new-means, born, good-start};
 use crate::paragraph::Paragraph;
 use fault::cause::Cause;
@@ -39,6 +42,7 @@ impl<S: ByteSink> Composer<S> {
     pub fn new(below: S, width: u32) -> Self
         ensures means { λ r. ⌜ means-of (S·ByteSink .means) r ≡ new-means width (S·ByteSink .means below) ⌝ }
         ensures below { λ r. ⌜ r .below ≡ below ⌝ }
+        ensures composes { λ r. ⌜ (20 ≤ width → width ≤ 998 → S·ByteSink .means below .fresh ≡ true → Composes width (S·ByteSink .means below) (means-of (S·ByteSink .means) r)) ⌝ }
     {
         let phase = first_phase(width, below.is_fresh());
         Composer {

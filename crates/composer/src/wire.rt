@@ -11,7 +11,7 @@ ghost use Rattle.orders.specs.Behind.{Behind};
 ghost use Rattle.sink.specs.Sink.{down};
 ghost use Rattle.folding.specs.Text.{space};
 ghost use Rattle.folding.specs.WireLine.{stuffing as stuffing-by, stuffed, wire-line};
-ghost use Rattle.composer.specs.Sending.{Sends};
+ghost use Rattle.composer.specs.Sending.{Went-down};
 use crate::held_line::breaks::is_stuffed;
 use fault::composer::ComposerFault;
 use fault::composer::ComposerFromBelow;
@@ -21,7 +21,7 @@ use sink::byte_sink::ByteSink;
 use sink::feed::feed;
 
 fn send_bytes<S: ByteSink>(below: &mut S, bytes: &[u8]) -> Result<(), ComposerFault>
-    ensures { λ r. ⌜ Sends (S·ByteSink .means (now (below .entry))) (S·ByteSink .means (now (below .exit))) (S·ByteSink .memory (now (below .entry))) (S·ByteSink .memory (now (below .exit))) (now (bytes .entry)) (told composer-fault r) ⌝ }
+    ensures { λ r. ⌜ Went-down (S·ByteSink .means) (S·ByteSink .memory) (now (below .entry)) (now (below .exit)) (now (bytes .entry)) (told composer-fault r) ⌝ }
 {
     let (_, fault) = feed(below, bytes);
     let answer = match fault {
@@ -33,7 +33,7 @@ fn send_bytes<S: ByteSink>(below: &mut S, bytes: &[u8]) -> Result<(), ComposerFa
 }
 
 fn send_byte<S: ByteSink>(below: &mut S, b: u8) -> Result<(), ComposerFault>
-    ensures { λ r. ⌜ Sends (S·ByteSink .means (now (below .entry))) (S·ByteSink .means (now (below .exit))) (S·ByteSink .memory (now (below .entry))) (S·ByteSink .memory (now (below .exit))) (b ∷ []) (told composer-fault r) ⌝ }
+    ensures { λ r. ⌜ Went-down (S·ByteSink .means) (S·ByteSink .memory) (now (below .entry)) (now (below .exit)) (b ∷ []) (told composer-fault r) ⌝ }
 {
     from_below(below.put(b))?;
     Ok(())
@@ -41,7 +41,7 @@ fn send_byte<S: ByteSink>(below: &mut S, b: u8) -> Result<(), ComposerFault>
 
 // The same byte, so many times.
 fn send_repeated<S: ByteSink>(below: &mut S, b: u8, times: usize) -> Result<(), ComposerFault>
-    ensures { λ r. ⌜ Sends (S·ByteSink .means (now (below .entry))) (S·ByteSink .means (now (below .exit))) (S·ByteSink .memory (now (below .entry))) (S·ByteSink .memory (now (below .exit))) (replicate times b) (told composer-fault r) ⌝ }
+    ensures { λ r. ⌜ Went-down (S·ByteSink .means) (S·ByteSink .memory) (now (below .entry)) (now (below .exit)) (replicate times b) (told composer-fault r) ⌝ }
 {
     for i in 0..times {
         send_byte(below, b)?;
@@ -74,7 +74,7 @@ pub(crate) fn send_line<S: ByteSink>(
     piece: &[u8],
     spaces: usize,
 ) -> Result<(), ComposerFault>
-    ensures { λ r. ⌜ Sends (S·ByteSink .means (now (below .entry))) (S·ByteSink .means (now (below .exit))) (S·ByteSink .memory (now (below .entry))) (S·ByteSink .memory (now (below .exit))) (wire-line depth (now (piece .entry) ++ replicate spaces space)) (told composer-fault r) ⌝ }
+    ensures { λ r. ⌜ Went-down (S·ByteSink .means) (S·ByteSink .memory) (now (below .entry)) (now (below .exit)) (wire-line depth (now (piece .entry) ++ replicate spaces space)) (told composer-fault r) ⌝ }
 {
     send_repeated(below, 0x3E, depth)?;
     send_repeated(below, 0x20, stuffing(depth, piece, spaces))?;

@@ -73,7 +73,7 @@ fn first_among(len: usize, spaces: usize, dashed: bool) -> Option<usize>
 
 // Where a line with spaces and one more byte behind it is broken: nowhere if all of it fits, at the furthest place among the
 // spaces that fits, at its last break, or at the first place among the spaces.
-pub(crate) fn place(
+pub(crate) fn break_place(
     len: usize,
     last_break: Option<usize>,
     spaces: usize,

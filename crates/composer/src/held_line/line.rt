@@ -13,9 +13,9 @@ ghost use Rattle.folding.specs.Incremental.{held-space, held-drop, held-join, h
 ghost use Rattle.composer.specs.State.{held-of, held-text};
 use crate::held_line::HeldLine;
 use crate::held_line::breaks::break_behind;
+use crate::held_line::breaks::break_place;
 use crate::held_line::breaks::is_two_dashes;
 use crate::held_line::breaks::lead;
-use crate::held_line::breaks::place;
 use crate::held_line::buffer::append;
 use crate::held_line::buffer::shift;
 
@@ -90,7 +90,7 @@ impl HeldLine {
         ensures { λ r. ⌜ r ≡ held-piece (now (self .entry) .depth) (now (self .entry) .width) (held-of (now (self .entry))) b ⌝ }
     {
         let lead = lead(self.depth, self.first(b));
-        place(
+        break_place(
             self.len,
             self.last_break,
             self.spaces,

@@ -9,9 +9,9 @@ ghost use Rattle.fault.specs.Answers.{told};
 ghost use Rattle.fault.specs.Kinds.{composer-fault};
 ghost use Rattle.folding.specs.WireLine.{wire-line};
 ghost use Rattle.folding.specs.Incremental.{ending};
-ghost use Rattle.composer.specs.Sending.{Sends};
+ghost use Rattle.composer.specs.Sending.{Went-down};
 ghost use Rattle.composer.specs.State.{held-of, held-text};
-ghost use Rattle.composer.specs.Taking.{Takes, counted};
+ghost use Rattle.composer.specs.Taking.{Took-down, counted};
 use crate::held_line::HeldLine;
 use crate::wire::send_line;
 use fault::composer::ComposerFault;
@@ -21,7 +21,7 @@ impl HeldLine {
     // The line of a piece of what is held.
     fn send_piece<S: ByteSink>(&self, below: &mut S, piece: usize) -> Result<(), ComposerFault>
         requires { ⌜ piece ≤ now self .len + now self .spaces ⌝ }
-        ensures { λ r. ⌜ Sends (S·ByteSink .means (now (below .entry))) (S·ByteSink .means (now (below .exit))) (S·ByteSink .memory (now (below .entry))) (S·ByteSink .memory (now (below .exit))) (wire-line (now (self .entry) .depth) (take piece (held-text (held-of (now (self .entry)))))) (told composer-fault r) ⌝ }
+        ensures { λ r. ⌜ Went-down (S·ByteSink .means) (S·ByteSink .memory) (now (below .entry)) (now (below .exit)) (wire-line (now (self .entry) .depth) (take piece (held-text (held-of (now (self .entry)))))) (told composer-fault r) ⌝ }
     {
         let front = piece.min(self.len);
         send_line(below, self.depth, &self.bytes[..front], piece - front)
@@ -36,7 +36,7 @@ impl HeldLine {
 
     // The last line, without spaces behind it unless it is a signature separator.
     pub(crate) fn send_last<S: ByteSink>(&self, below: &mut S) -> Result<(), ComposerFault>
-        ensures { λ r. ⌜ Sends (S·ByteSink .means (now (below .entry))) (S·ByteSink .means (now (below .exit))) (S·ByteSink .memory (now (below .entry))) (S·ByteSink .memory (now (below .exit))) (wire-line (now (self .entry) .depth) (ending (now (self .entry) .lines) (held-of (now (self .entry))))) (told composer-fault r) ⌝ }
+        ensures { λ r. ⌜ Went-down (S·ByteSink .means) (S·ByteSink .memory) (now (below .entry)) (now (below .exit)) (wire-line (now (self .entry) .depth) (ending (now (self .entry) .lines) (held-of (now (self .entry))))) (told composer-fault r) ⌝ }
     {
         if self.is_signature() {
             return send_line(below, self.depth, &self.bytes[..self.len], 1);
@@ -49,7 +49,7 @@ impl HeldLine {
         requires plain { ⌜ eqb b 32 ≡ false ⌝ }
         requires room { ⌜ full (now self .depth) (held-of (now self)) ≡ false ⌝ }
         requires few { ⌜ counted (now self) < 1000000 ⌝ }
-        ensures { λ r. ⌜ Takes (now (self .entry)) (now (self .exit)) b (S·ByteSink .means (now (below .entry))) (S·ByteSink .means (now (below .exit))) (S·ByteSink .memory (now (below .entry))) (S·ByteSink .memory (now (below .exit))) (told composer-fault r) ⌝ }
+        ensures { λ r. ⌜ Took-down (now (self .entry)) (now (self .exit)) b (S·ByteSink .means) (S·ByteSink .memory) (now (below .entry)) (now (below .exit)) (told composer-fault r) ⌝ }
     {
         while let Some(piece) = self.piece(b) {
             self.send_piece(below, piece)?;
@@ -63,7 +63,7 @@ impl HeldLine {
     pub(crate) fn take<S: ByteSink>(&mut self, below: &mut S, b: u8) -> Result<(), ComposerFault>
         requires room { ⌜ (eqb b 32 ≡ false → full (now self .depth) (held-of (now self)) ≡ false) ⌝ }
         requires few { ⌜ counted (now self) < 1000000 ⌝ }
-        ensures { λ r. ⌜ Takes (now (self .entry)) (now (self .exit)) b (S·ByteSink .means (now (below .entry))) (S·ByteSink .means (now (below .exit))) (S·ByteSink .memory (now (below .entry))) (S·ByteSink .memory (now (below .exit))) (told composer-fault r) ⌝ }
+        ensures { λ r. ⌜ Took-down (now (self .entry)) (now (self .exit)) b (S·ByteSink .means) (S·ByteSink .memory) (now (below .entry)) (now (below .exit)) (told composer-fault r) ⌝ }
     {
         if b == 0x20 {
             self.count_space();

@@ -8,7 +8,7 @@ ghost use Rattle.std.specs.Results.{Cases};
 ghost use Rattle.fault.specs.Answers.{told};
 ghost use Rattle.fault.specs.Kinds.{composer-fault};
 ghost use Rattle.composer.specs.Machine.{barred, begun, text-refusal, text-bytes, on-text, end-bytes, end-tells};
-ghost use Rattle.composer.specs.Sending.{Sends, done};
+ghost use Rattle.composer.specs.Sending.{Went-down, done};
 ghost use Rattle.composer.specs.Paragraphs.{within-of};
 use crate::held_line::HeldLine;
 use crate::paragraph::Paragraph;
@@ -74,7 +74,7 @@ impl Paragraph {
     // Takes a text byte that is not refused, and sends the lines that it finishes.
     pub(crate) fn take<S: ByteSink>(&mut self, below: &mut S, b: u8) -> Result<(), ComposerFault>
         requires { ⌜ text-refusal (now self .held .width) b (within-of (now self)) ≡ none ⌝ }
-        ensures sends { λ r. ⌜ Sends (S·ByteSink .means (now (below .entry))) (S·ByteSink .means (now (below .exit))) (S·ByteSink .memory (now (below .entry))) (S·ByteSink .memory (now (below .exit))) (text-bytes (now (self .entry) .held .width) b (within-of (now (self .entry)))) (told composer-fault r) ⌝ }
+        ensures sends { λ r. ⌜ Went-down (S·ByteSink .means) (S·ByteSink .memory) (now (below .entry)) (now (below .exit)) (text-bytes (now (self .entry) .held .width) b (within-of (now (self .entry)))) (told composer-fault r) ⌝ }
         ensures within { λ r. ⌜ (told composer-fault r ≡ ok tt → within-of (now (self .exit)) ≡ on-text (now (self .entry) .held .width) b (within-of (now (self .entry)))) ⌝ }
         ensures width { λ _. ⌜ now (self .exit) .held .width ≡ now (self .entry) .held .width ⌝ }
     {
@@ -85,7 +85,7 @@ impl Paragraph {
     // Sends the last line, and says how many there were.
     pub(crate) fn end<S: ByteSink>(&mut self, below: &mut S) -> Result<u32, ComposerFault>
         requires { ⌜ now self .«is_open» ≡ true ⌝ }
-        ensures sends { λ r. ⌜ Sends (S·ByteSink .means (now (below .entry))) (S·ByteSink .means (now (below .exit))) (S·ByteSink .memory (now (below .entry))) (S·ByteSink .memory (now (below .exit))) (end-bytes (within-of (now (self .entry)))) (told composer-fault (done r)) ⌝ }
+        ensures sends { λ r. ⌜ Went-down (S·ByteSink .means) (S·ByteSink .memory) (now (below .entry)) (now (below .exit)) (end-bytes (within-of (now (self .entry)))) (told composer-fault (done r)) ⌝ }
         ensures tells { λ r. ⌜ Cases r (λ n. n ≡ end-tells (within-of (now (self .entry)))) (λ _. Unit {0}) ⌝ }
         ensures closed { λ _. ⌜ within-of (now (self .exit)) ≡ none ⌝ }
         ensures width { λ _. ⌜ now (self .exit) .held .width ≡ now (self .entry) .held .width ⌝ }

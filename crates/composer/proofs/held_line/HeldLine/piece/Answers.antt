@@ -14,7 +14,7 @@ returns c =
     let h = c .args .self .now in
     let b = c .args .b in
     let before : c .lead-lead .result ≡ lead (h .depth) (held-with (held-of h) b) = c .lead-lead .ensures ∙ sym (held-lead (h .depth) (held-of h) b (c .first .result) (c .first .ensures)) in
-    c .place .ensures
+    c .break-place .ensures
     ∙ ap (λ (x : ℕ). break-place (h .len) (h .«last_break») (h .spaces) (c .is-dashes .result) x (h .width)) before
     ∙ ap (λ (x : Bool). break-place (h .len) (h .«last_break») (h .spaces) x (lead (h .depth) (held-with (held-of h) b)) (h .width)) (c .is-dashes .ensures)
     ∙ ap (λ (x : ℕ). break-place x (h .«last_break») (h .spaces) (is-dashes (held-of h)) (lead (h .depth) (held-with (held-of h) b)) (h .width)) (sym (line-length h))
