@@ -1,0 +1,6 @@
+pub mod Lines
+pub mod Paragraphs
+pub mod Events
+pub mod Machine
+pub mod Laws
+pub mod Mails
