@@ -4,4 +4,8 @@ pub mod Contents
 pub mod LineByLine
 pub mod Telling
 pub mod Lines
+pub mod OnlyLines
+pub mod Joins
+pub mod Cutting
+pub mod SentBack
 pub mod Mails

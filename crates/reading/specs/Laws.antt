@@ -39,3 +39,40 @@ pub record Read-as-paragraphs (ls : List Text) : Type 0 where
 
 abbrev pub Lines-read : Type 0
 Lines-read = (ls : List Text) → All Readable ls → Read-as-paragraphs ls
+
+-- no other bytes are taken whole and finished on
+abbrev pub Only-lines-read : Type 0
+Only-lines-read = (bs : List ℕ) (es : List Event) → read bs ≡ Ok es → (ls : List Text) × All Readable ls × (bs ≡ text-of ls)
+
+-- a paragraph and its folding
+pub record Sent : Type 0 where
+  pub depth : ℕ
+  pub text : Text
+  pub folded : Folded
+
+pub record Sendable (p : Sent) : Type 0 where
+  pub shallow : p .depth ≤ deepest
+  pub clean : All (λ b. barred b ≡ false) (p .text)
+  pub width : ℕ
+  pub folds : folding (p .depth) width (settled (p .text)) ≡ Some (p .folded)
+
+-- the lines of paragraphs, one paragraph after the other, and their wire bytes
+abbrev pub sent-lines : List Sent → List Text
+sent-lines ps = joined (λ p. map (bare-line (p .depth)) (pieces (p .folded))) ps
+
+abbrev pub sent-bytes : List Sent → Text
+sent-bytes ps = joined (λ p. wire-lines (p .depth) (pieces (p .folded))) ps
+
+abbrev pub settled-paragraphs : List Sent → List Paragraph
+settled-paragraphs ps = map (λ p. record { depth = p .depth; text = settled (p .text) }) ps
+
+-- what is sent reads back: as exactly those paragraphs, in order and with their settled texts
+pub record Reads-back (ps : List Sent) : Type 0 where
+  pub bytes : text-of (sent-lines ps) ≡ sent-bytes ps
+  pub readable : All Readable (sent-lines ps)
+  pub by-lines : paragraphs (map read-line (sent-lines ps)) ≡ settled-paragraphs ps
+  pub so-far : run start (sent-bytes ps) ≡ record { handed = told (settled-paragraphs ps); left = Ok start }
+  pub finished : read (sent-bytes ps) ≡ Ok (told (settled-paragraphs ps))
+
+abbrev pub Sent-reads-back : Type 0
+Sent-reads-back = (ps : List Sent) → All Sendable ps → Reads-back ps
