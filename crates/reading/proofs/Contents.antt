@@ -3,23 +3,19 @@ use mathlib.Core.Path.{_≡_, refl, sym, ap, subst, _∙_}
 use mathlib.Core.List.{List, [], _∷_, _++_, append-assoc, append-nil}
 use mathlib.Core.Bool.{Bool, true, false, cond, _&&_, _||_}
 use Prim.Native.Nat.{ℕ}
-use native.Mathlib.Omega.{arith}
 use lib.Dec.{eqb}
 use Rattle.std.specs.shelf.Text.{sameBytes}
-use Rattle.std.specs.shelf.Lists.{All}
-use Rattle.std.specs.declared.option.Option.{Option}
-use Rattle.std.specs.declared.option.Option.the-variants.{Some, None}
 use Rattle.std.proofs.shelf.Lists.{map-push}
 use Rattle.std.proofs.shelf.Tests.{both-ways, or-parts}
 use Rattle.taker.specs.Paragraph.{barred}
-use Rattle.folding.specs.Text.{Text, space, signature, ends-in-space}
+use Rattle.folding.specs.Text.{Text, signature, ends-in-space}
 use Rattle.folding.specs.WireLine.{crlf}
-use Rattle.folding.specs.Reading.{Line, Kind, signed, flowed, fixed, kind}
+use Rattle.folding.specs.Reading.{Line, kind}
 use Rattle.folding.proofs.Spaces.{ends-behind}
-use Rattle.reading.specs.Lines.{is-flowed, is-signed}
+use Rattle.reading.specs.Lines.{Clean, is-signed}
 use Rattle.reading.specs.Paragraphs.{open-after}
 use Rattle.reading.specs.Events.{Event, opened, text, ended, texts, end-unless}
-use Rattle.reading.specs.Machine.{Content, held, passed, State, in-content, behind-cr, at-line, Step, hands, beginning-of, content-byte, line-byte, line-end, step}
+use Rattle.reading.specs.Machine.{Content, held, passed, in-content, behind-cr, at-line, hands, beginning-of, content-byte, line-byte, line-end, step}
 use Rattle.reading.proofs.Runs.{Goes, goes-none, goes-as, goes-byte, goes-then}
 use Rattle.reading.proofs.Signatures.{beginning-shorter, same-beginning, beginning-ends}
 
@@ -66,7 +62,7 @@ record Goes-on (d : ℕ) (k : Bool) (c t u : Text) : Type 0 where
   goes : Goes (in-content d k (stands c)) t events (in-content d k (stands u))
   adds : gone c ++ events ≡ gone u
 
-content-goes-on : (d : ℕ) (k : Bool) (c t u : Text) → c ++ t ≡ u → All (λ b. barred b ≡ false) t → Goes-on d k c t u
+content-goes-on : (d : ℕ) (k : Bool) (c t u : Text) → c ++ t ≡ u → Clean t → Goes-on d k c t u
 content-goes-on d k c [] u e h =
     let q : c ≡ u = sym (append-nil c) ∙ e in
     record { events = []; goes = subst (λ (v : Text). Goes (in-content d k (stands c)) [] [] (in-content d k (stands v))) q goes-none; adds = append-nil (gone c) ∙ ap gone q }
@@ -107,7 +103,7 @@ content-ends d k c = go (beginning-of c signature) refl (sameBytes c signature) 
     go false p false q false r = record { events = ended ∷ []; ends = rw (p, q, r) refl; adds = rw (p, q, r) refl }
 
 -- the rest of a line whose depth is settled
-pub content-line : (d : ℕ) (k : Bool) (c : Text) → All (λ b. barred b ≡ false) c →
+pub content-line : (d : ℕ) (k : Bool) (c : Text) → Clean c →
     Goes (in-content d k (held [])) (c ++ crlf) (apart k d c ++ told-line (line d c)) (at-line (open-after (line d c)))
 content-line d k c h =
     let r = content-goes-on d k [] c c refl h in

@@ -1,15 +1,14 @@
 -- Where the first paragraph of lines ends.
-use mathlib.Core.Path.{_≡_, refl, sym, ap, subst, _∙_}
+use mathlib.Core.Path.{_≡_, refl, sym, ap, subst}
 use mathlib.Core.List.{List, [], _∷_, _++_, append-nil, map}
-use mathlib.Core.Bool.{Bool, true, false, cond, not, _&&_}
+use mathlib.Core.Bool.{true, false}
 use Prim.Native.Nat.{ℕ}
-use lib.Dec.{eqb}
 use Rattle.std.specs.shelf.Lists.{All, joined}
 use Rattle.std.proofs.shelf.Tests.{eq-eqb}
 use Rattle.folding.specs.Text.{Text}
 use Rattle.folding.specs.Reading.{Line, Kind, signed, flowed, fixed, kind}
 use Rattle.reading.specs.Lines.{is-flowed, is-signed, continued-by}
-use Rattle.reading.specs.Paragraphs.{Paragraph, text-from, beginning-with, behind, paragraphs, open-after, still-open}
+use Rattle.reading.specs.Paragraphs.{Paragraph, paragraphs, still-open}
 use Rattle.reading.proofs.Contents.{line}
 
 -- the first paragraph of ls is p, and behind it there are the lines ms

@@ -5,21 +5,21 @@ use mathlib.Core.Bool.{Bool, true, false, cond, not, _&&_}
 use Prim.Native.Nat.{ℕ, _+_, _≤_, _<_}
 use native.Mathlib.Nat.{add-zero, zero-add}
 use native.Mathlib.Omega.{arith}
-use lib.Dec.{eqb, ltb}
-use Rattle.std.specs.shelf.Lists.{All}
+use lib.Dec.{eqb}
 use Rattle.std.specs.declared.option.Option.{Option}
 use Rattle.std.specs.declared.option.Option.the-variants.{Some, None}
 use Rattle.std.specs.declared.result.Result.the-variants.{Ok}
-use Rattle.std.proofs.shelf.Tests.{lt-ltb, eqb-true}
-use Rattle.taker.specs.Paragraph.{barred, deepest}
+use Rattle.std.proofs.shelf.Tests.{lt-ltb}
+use Rattle.taker.specs.Paragraph.{deepest}
 use Rattle.folding.specs.Text.{Text, space}
 use Rattle.folding.specs.WireLine.{quote-mark, crlf}
-use Rattle.folding.specs.Reading.{Line, deeper, read-line, unstuffed, kind}
-use Rattle.reading.specs.Lines.{is-signed, Readable}
+use Rattle.folding.specs.Reading.{Line, deeper, read-line, kind}
+use Rattle.reading.specs.Lines.{Clean, is-signed, Readable}
 use Rattle.reading.specs.Paragraphs.{open-after}
 use Rattle.reading.specs.Events.{Event, opened, ended}
-use Rattle.reading.specs.Machine.{State, in-marks, in-content, at-line, held, hands, refuses, Step, with-before, goes-on, settling, first-byte, step, run-by, run, Run}
-use Rattle.reading.proofs.Runs.{Goes, goes-none, goes-as, goes-byte, goes-then}
+use Rattle.reading.specs.Machine.{State, in-marks, in-content, at-line, held, hands, refuses, Step, with-before, goes-on, settling, step}
+use Rattle.reading.specs.Runs.{run-by, run, Run}
+use Rattle.reading.proofs.Runs.{Goes, goes-as, goes-byte}
 use Rattle.reading.proofs.Contents.{apart, told-line, line, content-line}
 
 -- what a line hands on before its text, by the depth of the paragraph that is open before it, if any: nothing, if that goes on
@@ -76,7 +76,7 @@ undeepened : (o : Option ℕ) (n : ℕ) (c : Text) (bs : List ℕ) → Reads-lin
 undeepened o n c bs h = subst (λ (d : ℕ). Reads-line o n bs (line d c)) (sym (add-zero n)) h
 
 -- a line from its first n quote marks on
-line-from : (o : Option ℕ) (n : ℕ) (l : Text) → n + read-line l .depth ≤ deepest → All (λ b. barred b ≡ false) l →
+line-from : (o : Option ℕ) (n : ℕ) (l : Text) → n + read-line l .depth ≤ deepest → Clean l →
     Reads-line o n (l ++ crlf) (deepened n (read-line l))
 line-from o n [] s h = undeepened o n [] crlf (unmarked o n [] crlf (led (settling o n) refl (content-line n (goes-on o n) [] tt)))
 line-from o n (b ∷ l) s h = go (eqb b quote-mark) refl (eqb b space) refl s (λ k. line-from o (n + 1) l k (h .1))

@@ -1,21 +1,20 @@
 -- Whole lines are read as their paragraphs.
-use mathlib.Core.Path.{_≡_, refl, sym, ap, _∙_}
-use mathlib.Core.List.{List, [], _∷_, _++_, append-nil, map}
+use mathlib.Core.Path.{_≡_, refl, ap, _∙_}
+use mathlib.Core.List.{List, [], _∷_, append-nil}
 use Prim.Native.Nat.{ℕ}
 use Rattle.std.specs.shelf.Lists.{All}
 use Rattle.std.specs.declared.option.Option.{Option}
 use Rattle.std.specs.declared.option.Option.the-variants.{Some, None}
-use Rattle.std.specs.declared.result.Result.{Result}
-use Rattle.std.specs.declared.result.Result.the-variants.{Ok, Err}
-use Rattle.fault.specs.declared.cause.Cause.{Cause}
+use Rattle.std.specs.declared.result.Result.the-variants.{Ok}
 use Rattle.folding.specs.Text.{Text}
 use Rattle.folding.specs.Reading.{Line, read-line}
-use Rattle.reading.specs.Lines.{Readable, text-of}
+use Rattle.reading.specs.Lines.{Readable, text-of, read-lines}
 use Rattle.reading.specs.Paragraphs.{Paragraph, beginning-with, behind, paragraphs, open-after, still-open}
 use Rattle.reading.specs.Events.{Event, told, told-so-far}
-use Rattle.reading.specs.Machine.{State, at-line, start, Run, run, finish-by, read}
+use Rattle.reading.specs.Machine.{at-line, start}
+use Rattle.reading.specs.Runs.{Run, run, finish-by}
 use Rattle.reading.specs.Laws.{Lines-read}
-use Rattle.reading.proofs.Runs.{Goes, goes-none, goes-as, goes-then}
+use Rattle.reading.proofs.Runs.{Goes, goes-none, goes-then}
 use Rattle.reading.proofs.LineByLine.{line-reads}
 use Rattle.reading.proofs.Telling.{lines-events, lines-tell, told-ended, told-open}
 
@@ -26,7 +25,7 @@ open-behind o (l ∷ ls) = open-behind (open-after l) ls
 
 -- lines from any line beginning
 pub lines-go : (o : Option ℕ) (ls : List Text) → All Readable ls →
-    Goes (at-line o) (text-of ls) (lines-events o (map read-line ls)) (at-line (open-behind o (map read-line ls)))
+    Goes (at-line o) (text-of ls) (lines-events o (read-lines ls)) (at-line (open-behind o (read-lines ls)))
 lines-go o [] h = goes-none
 lines-go o (l ∷ ls) h = goes-then (line-reads o l (h .0)) (lines-go (open-after (read-line l)) ls (h .1))
 
@@ -50,7 +49,7 @@ pub lines-read : Lines-read
 lines-read ls h = record { so-far = so-far; finished = ap (λ (r : Run). finish-by (r .handed) (r .left)) so-far ∙ lines-finished all }
   where
     all : List Line
-    all = map read-line ls
+    all = read-lines ls
 
     so-far : run start (text-of ls) ≡ record { handed = told-so-far (still-open all) (paragraphs all); left = Ok (at-line (still-open all)) }
     so-far = lines-go None ls h .runs ∙ (λ i. record { handed = lines-tell all i; left = Ok (at-line (open-behind-all all i)) })

@@ -3,4 +3,4 @@ use mathlib.Core.Path.{refl}
 use Rattle.reading.specs.Mails.{Mails}
 
 pub mails : Mails
-mails = record { deeper = refl; signature = refl; stuffing = refl; left-open = refl }
+mails = record { deeper = refl; signature = refl; stuffing = refl; still-open = refl }

@@ -6,7 +6,8 @@ use Rattle.std.specs.declared.result.Result.{Result}
 use Rattle.std.specs.declared.result.Result.the-variants.{Ok, Err}
 use Rattle.fault.specs.declared.cause.Cause.{Cause}
 use Rattle.reading.specs.Events.{Event}
-use Rattle.reading.specs.Machine.{State, Step, hands, refuses, step, Run, run, run-by}
+use Rattle.reading.specs.Machine.{State, Step, hands, refuses, step}
+use Rattle.reading.specs.Runs.{Run, run, run-by}
 use Rattle.reading.specs.Laws.{run-on, Bytes-in-turn}
 
 -- events before those of a run

@@ -9,7 +9,7 @@ use Rattle.std.specs.declared.option.Option.the-variants.{Some, None}
 use Rattle.std.proofs.shelf.Lists.{map-append}
 use Rattle.folding.specs.Text.{Text}
 use Rattle.folding.specs.Reading.{Line, kind}
-use Rattle.reading.specs.Lines.{is-flowed, is-signed, continued-by}
+use Rattle.reading.specs.Lines.{is-flowed, is-signed}
 use Rattle.reading.specs.Paragraphs.{Paragraph, text-from, beginning-with, behind, paragraphs, open-after, still-open}
 use Rattle.reading.specs.Events.{Event, opened, text, ended, texts, begun, whole, told, end-unless, told-so-far}
 use Rattle.reading.proofs.Contents.{told-line}

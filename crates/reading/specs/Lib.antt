@@ -2,5 +2,8 @@ pub mod Lines
 pub mod Paragraphs
 pub mod Events
 pub mod Machine
+pub mod Runs
 pub mod Laws
+pub mod Refusals
+pub mod Sent
 pub mod Mails

@@ -1,6 +1,6 @@
 -- The lines of wire bytes, and which of them can be read.
 use mathlib.Core.Path.{_≡_}
-use mathlib.Core.List.{List, _++_}
+use mathlib.Core.List.{List, _++_, map}
 use mathlib.Core.Bool.{Bool, true, false, not, _&&_}
 use Prim.Native.Nat.{_≤_}
 use lib.Dec.{eqb}
@@ -14,10 +14,18 @@ use Rattle.folding.specs.Reading.{Line, read-line, Kind, signed, flowed, fixed,
 abbrev pub text-of : List Text → Text
 text-of ls = joined (λ l. l ++ crlf) ls
 
--- a line that can be read, by its bytes before CRLF: there is no 00, 0A and 0D in it, and it is not too deep
+-- there is no 00, 0A and 0D in it
+abbrev pub Clean : Text → Type 0
+Clean t = All (λ b. barred b ≡ false) t
+
+-- a line that can be read, by its bytes before CRLF
 pub record Readable (l : Text) : Type 0 where
-  pub clean : All (λ b. barred b ≡ false) l
+  pub clean : Clean l
   pub shallow : read-line l .depth ≤ deepest
+
+-- each by its depth and its content
+abbrev pub read-lines : List Text → List Line
+read-lines ls = map read-line ls
 
 abbrev pub is-flowed : Kind → Bool
 is-flowed signed = false
