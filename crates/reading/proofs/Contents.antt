@@ -1,12 +1,11 @@
 -- The content of a line, byte by byte.
 use mathlib.Core.Path.{_≡_, refl, sym, ap, subst, _∙_}
 use mathlib.Core.List.{List, [], _∷_, _++_, append-assoc, append-nil}
-use mathlib.Core.Bool.{Bool, true, false, cond, _&&_, _||_}
+use mathlib.Core.Bool.{Bool, true, false, cond, _&&_}
 use Prim.Native.Nat.{ℕ}
-use lib.Dec.{eqb}
 use Rattle.std.specs.shelf.Text.{sameBytes}
 use Rattle.std.proofs.shelf.Lists.{map-push}
-use Rattle.std.proofs.shelf.Tests.{both-ways, or-parts}
+use Rattle.std.proofs.shelf.Tests.{both-ways}
 use Rattle.taker.specs.Paragraph.{barred}
 use Rattle.folding.specs.Text.{Text, signature, ends-in-space}
 use Rattle.folding.specs.WireLine.{crlf}
@@ -16,6 +15,7 @@ use Rattle.reading.specs.Lines.{Clean, is-signed}
 use Rattle.reading.specs.Paragraphs.{open-after}
 use Rattle.reading.specs.Events.{Event, opened, text, ended, texts, end-unless}
 use Rattle.reading.specs.Machine.{Content, held, passed, in-content, behind-cr, at-line, hands, beginning-of, content-byte, line-byte, line-end, step}
+use Rattle.reading.proofs.Cleaning.{unbarred-unlike}
 use Rattle.reading.proofs.Runs.{Goes, goes-none, goes-as, goes-byte, goes-then}
 use Rattle.reading.proofs.Signatures.{beginning-shorter, same-beginning, beginning-ends}
 
@@ -28,10 +28,7 @@ gone c = cond (beginning-of c signature) [] (texts c)
 
 -- a byte that is text
 pub clean-byte : (d : ℕ) (k : Bool) (c : Content) (b : ℕ) → barred b ≡ false → line-byte d k c b ≡ content-byte d k c b
-clean-byte d k c b e =
-    let p = or-parts (eqb b 0 || eqb b 10) (eqb b 13) e in
-    let q = or-parts (eqb b 0) (eqb b 10) (p .0) in
-    rw (q .0, q .1, p .1) refl
+clean-byte d k c b e = let u = unbarred-unlike b e in rw (u .null, u .line-feed, u .return) refl
 
 -- what a byte more of content hands on
 record Byte-goes-on (d : ℕ) (k : Bool) (c : Text) (b : ℕ) : Type 0 where

@@ -1,16 +1,14 @@
 -- Behind the bytes of a line that were taken.
 use mathlib.Core.Path.{_≡_, refl, sym, ap, subst, _∙_}
 use mathlib.Core.List.{List, [], _∷_, _++_}
-use mathlib.Core.Bool.{Bool, true, false}
+use mathlib.Core.Bool.{Bool}
 use Prim.Native.Nat.{ℕ}
 use native.Mathlib.Omega.{arith}
 use Rattle.std.specs.declared.option.Option.{Option}
 use Rattle.std.specs.declared.result.Result.{Result}
 use Rattle.std.specs.declared.result.Result.the-variants.{Ok, Err}
-use Rattle.std.proofs.shelf.Tests.{both-ways}
 use Rattle.fault.specs.declared.cause.Cause.{Cause}
 use Rattle.fault.specs.declared.cause.Cause.the-variants.{BarredByte, Unpaired}
-use Rattle.taker.specs.Paragraph.{barred}
 use Rattle.folding.specs.Text.{Text}
 use Rattle.folding.specs.WireLine.{crlf}
 use Rattle.reading.specs.Lines.{Clean, Readable, text-of}
@@ -18,18 +16,12 @@ use Rattle.reading.specs.Events.{Event}
 use Rattle.reading.specs.Machine.{Content, held, State, in-marks, in-content, behind-cr, at-line, Step, hands, refuses, goes-on, settling, step}
 use Rattle.reading.specs.Runs.{Run, run-by, run}
 use Rattle.reading.specs.Laws.{run-on}
-use Rattle.reading.proofs.Joins.{all-front, all-back}
+use Rattle.reading.proofs.Constructors.{err-ok}
+use Rattle.reading.proofs.Cleaning.{clean-front, clean-cr}
 use Rattle.reading.proofs.Runs.{bytes-in-turn}
 use Rattle.reading.proofs.LineByLine.{line-reads}
 use Rattle.reading.proofs.Standing.{Stands}
 use Rattle.reading.proofs.Outcomes.{Outcome, run-outcome}
-
-abbrev Unbarred : ℕ → Type 0
-Unbarred b = barred b ≡ false
-
--- a text with 0D in it is not clean
-pub no-cr : (t u : Text) → Clean (t ++ 0x0D ∷ u) → ⊥
-no-cr t u h = both-ways true (all-back Unbarred t (0x0D ∷ u) h .0) refl
 
 -- bytes behind others
 pub left-then : (s : State) (bs cs : List ℕ) (r : Result State Cause) → run s bs .left ≡ r → run s (bs ++ cs) .left ≡ run-on [] r cs .left
@@ -47,7 +39,7 @@ pub record At (o : Option ℕ) (q : Text) : Type 0 where
 
 alone : (ls : List Text) (q : Text) → Clean (text-of ls ++ q) → text-of ls ++ q ≡ q
 alone [] q h = refl
-alone (l ∷ ls) q h = absurd (no-cr l (0x0A ∷ []) (all-front Unbarred (l ++ crlf) (text-of ls) (all-front Unbarred ((l ++ crlf) ++ text-of ls) q h)))
+alone (l ∷ ls) q h = absurd (clean-cr l (0x0A ∷ []) (clean-front (l ++ crlf) (text-of ls) (clean-front ((l ++ crlf) ++ text-of ls) q h)))
 
 pub line-taken : (o : Option ℕ) (l : Text) → Readable l → At o l
 line-taken o l h = go (run (at-line o) l .left) refl (run-outcome (at-line o) [] l (omega arith, refl))
@@ -56,11 +48,7 @@ line-taken o l h = go (run (at-line o) l .left) refl (run-outcome (at-line o) []
     go (Ok s) e w =
         let same : l ≡ w .line = w .is ∙ alone (w .lines) (w .line) (subst Clean (w .is) (h .clean)) in
         record { state = s; left = e; stands = subst (Stands s) (sym same) (w .stands) }
-    go (Err c) e w =
-        let refused = left-then (at-line o) l crlf (Err c) e in
-        let taken = ap (λ (r : Run). r .left) (line-reads o l h .runs) in
-        let z : _≡_ {A = ℕ} 0 1 = cc in
-        absurd (omega arith)
+    go (Err c) e w = absurd (err-ok (sym (left-then (at-line o) l crlf (Err c) e) ∙ ap (λ (r : Run). r .left) (line-reads o l h .runs)))
 
 -- the next byte, where the line has no 0D yet
 pub record Next (s : State) : Type 0 where
@@ -76,7 +64,7 @@ pub next : (s : State) (q : Text) → Clean q → Stands s q → Next s
 next (in-marks o n) q h w =
     record { barred-byte = refl; line-feed = refl; events = settling o n ++ []; depth = n; before = goes-on o n; content = held []; return = refl }
 next (in-content d k c) q h w = record { barred-byte = refl; line-feed = refl; events = []; depth = d; before = k; content = c; return = refl }
-next (behind-cr d k c) q h w = absurd (no-cr (w .0) [] (subst Clean (w .2) h))
+next (behind-cr d k c) q h w = absurd (clean-cr (w .0) [] (subst Clean (w .2) h))
 
 unfoldable pub cr-taken : (o : Option ℕ) (l : Text) → Readable l → At o (l ++ 0x0D ∷ [])
 cr-taken o l h =

@@ -1,26 +1,26 @@
 -- What is handed on is in order.
 use mathlib.Core.Path.{_≡_, refl, subst}
 use mathlib.Core.List.{List, [], _∷_, _++_}
-use mathlib.Core.Bool.{Bool, true, false, cond, _&&_, _||_}
-use Prim.Native.Nat.{ℕ, zero, suc, _+_, _≤_}
+use mathlib.Core.Bool.{Bool, true, false, cond, _&&_}
+use Prim.Native.Nat.{ℕ, zero, suc, _≤_}
 use native.Mathlib.Omega.{arith}
-use lib.Dec.{eqb, ltb}
+use lib.Dec.{eqb}
 use Rattle.std.specs.shelf.Text.{sameBytes}
 use Rattle.std.specs.declared.option.Option.{Option}
 use Rattle.std.specs.declared.option.Option.the-variants.{Some, None}
 use Rattle.std.specs.declared.result.Result.{Result}
 use Rattle.std.specs.declared.result.Result.the-variants.{Ok, Err}
-use Rattle.std.proofs.shelf.Elements.{all-push}
-use Rattle.std.proofs.shelf.Tests.{eqb-true, ltb-true, or-from}
+use Rattle.std.proofs.shelf.Tests.{eqb-true}
 use Rattle.fault.specs.declared.cause.Cause.{Cause}
-use Rattle.fault.specs.declared.cause.Cause.the-variants.{TooDeep, BarredByte, Unpaired}
 use Rattle.taker.specs.Paragraph.{barred, deepest}
-use Rattle.folding.specs.Text.{Text, space, signature}
-use Rattle.folding.specs.WireLine.{quote-mark}
+use Rattle.folding.specs.Text.{Text, signature}
 use Rattle.reading.specs.Lines.{Clean}
 use Rattle.reading.specs.Events.{Event, opened, ended, texts}
-use Rattle.reading.specs.Machine.{Content, held, passed, State, in-marks, in-content, behind-cr, start, Step, hands, refuses, beginning-of, content-byte, line-byte, with-before, settling, goes-on, first-byte, line-end, step, finish}
+use Rattle.reading.specs.Machine.{Content, held, passed, State, in-marks, in-content, behind-cr, start, Step, hands, refuses, with-before, settling, line-end, step, finish}
 use Rattle.reading.specs.Runs.{Run, run-by, run, finish-by, behind-events}
+use Rattle.reading.proofs.Constructors.{err-ok}
+use Rattle.reading.proofs.Cleaning.{clean-push}
+use Rattle.reading.proofs.Steps.{Content-step, Line-step, Steps, steps}
 use Rattle.reading.specs.Laws.{open-in, In-order, Handed-in-order}
 
 pub in-order-then : {o p q : Option ℕ} {es fs : List Event} → In-order o es p → In-order p fs q → In-order o (es ++ fs) q
@@ -48,26 +48,16 @@ abbrev pub Steps-in-order : Option ℕ → Step → Type 0
 Steps-in-order o (hands es s) = In-order o es (open-in s) × Sound s
 Steps-in-order o (refuses c) = Unit {0}
 
-content-in-order : (d : ℕ) (k : Bool) (c : Content) (b : ℕ) → d ≤ deepest → Sound-content c → barred b ≡ false → Steps-in-order (Some d) (content-byte d k c b)
-content-in-order d k (held h) b l s e = go (beginning-of (h ++ b ∷ []) signature)
-  where
-    clean : Clean (h ++ b ∷ [])
-    clean = all-push (λ x. barred x ≡ false) h b s e
+content-in-order : {d : ℕ} {k : Bool} {b : ℕ} {c : Content} {w : Step} → d ≤ deepest → Sound-content c → barred b ≡ false → Content-step d k b c w → Steps-in-order (Some d) w
+content-in-order {b = b} l s e (Content-step.holds {h} f) = (In-order.nothing, (l, clean-push h b s e))
+content-in-order {d} {b = b} l s e (Content-step.frees {h} f) = (texts-in-order d (h ++ b ∷ []) (clean-push h b s e), (l, tt))
+content-in-order l s e Content-step.passes = (In-order.byte e In-order.nothing, (l, tt))
 
-    go : (x : Bool) → Steps-in-order (Some d) (cond x (hands [] (in-content d k (held (h ++ b ∷ [])))) (hands (texts (h ++ b ∷ [])) (in-content d k (passed (eqb b space)))))
-    go true = (In-order.nothing, (l, clean))
-    go false = (texts-in-order d (h ++ b ∷ []) clean, (l, tt))
-content-in-order d k (passed s) b l h e = (In-order.byte e In-order.nothing, (l, tt))
-
-line-in-order : (d : ℕ) (k : Bool) (c : Content) (b : ℕ) → d ≤ deepest → Sound-content c → Steps-in-order (Some d) (line-byte d k c b)
-line-in-order d k c b l s = go (eqb b 0) refl (eqb b 0x0A) refl (eqb b 0x0D) refl
-  where
-    go : (x : Bool) → eqb b 0 ≡ x → (y : Bool) → eqb b 0x0A ≡ y → (z : Bool) → eqb b 0x0D ≡ z →
-        Steps-in-order (Some d) (cond x (refuses BarredByte) (cond y (refuses Unpaired) (cond z (hands [] (behind-cr d k c)) (content-byte d k c b))))
-    go true e y f z g = tt
-    go false e true f z g = tt
-    go false e false f true g = (In-order.nothing, (l, s))
-    go false e false f false g = content-in-order d k c b l s (or-from (eqb b 0 || eqb b 10) (eqb b 13) (or-from (eqb b 0) (eqb b 10) e f) g)
+line-in-order : {d : ℕ} {k : Bool} {c : Content} {b : ℕ} {w : Step} → d ≤ deepest → Sound-content c → Line-step d k c b w → Steps-in-order (Some d) w
+line-in-order l s Line-step.null = tt
+line-in-order l s Line-step.line-feed = tt
+line-in-order l s Line-step.return = (In-order.nothing, (l, s))
+line-in-order l s (Line-step.content e h) = content-in-order l s e h
 
 settling-in-order : (o : Option ℕ) (d : ℕ) → d ≤ deepest → In-order o (settling o d) (Some d)
 settling-in-order None d l = In-order.opening l In-order.nothing
@@ -81,16 +71,6 @@ before-in-order : (o p : Option ℕ) (es : List Event) (w : Step) → In-order o
 before-in-order o p es (hands fs s) h k = (in-order-then h (k .0), k .1)
 before-in-order o p es (refuses c) h k = tt
 
-first-in-order : (o : Option ℕ) (d b : ℕ) → d ≤ deepest → Steps-in-order o (first-byte o d b)
-first-in-order o d b l = before-in-order o (Some d) (settling o d) (first (eqb b space)) (settling-in-order o d l) (go (eqb b space))
-  where
-    first : Bool → Step
-    first x = cond x (hands [] (in-content d (goes-on o d) (held []))) (line-byte d (goes-on o d) (held []) b)
-
-    go : (x : Bool) → Steps-in-order (Some d) (first x)
-    go true = (In-order.nothing, (l, tt))
-    go false = line-in-order d (goes-on o d) (held []) b l tt
-
 end-in-order : (d : ℕ) (k : Bool) (c : Content) → d ≤ deepest → Sound-content c → Steps-in-order (Some d) (line-end d k c)
 end-in-order d k (passed true) l s = (In-order.nothing, omega arith)
 end-in-order d k (passed false) l s = (In-order.ending In-order.nothing, omega arith)
@@ -100,20 +80,18 @@ end-in-order d k (held h) l s = (in-order-then (go (sameBytes h signature && k))
     go true = In-order.ending (In-order.opening l In-order.nothing)
     go false = In-order.nothing
 
+step-by : {s : State} {b : ℕ} {w : Step} → Sound s → Steps s b w → Steps-in-order (open-in s) w
+step-by l (Steps.deeper m) = (In-order.nothing, omega arith)
+step-by l (Steps.too-deep m) = tt
+step-by l (Steps.stuffing {o} {n}) = (in-order-then (settling-in-order o n l) In-order.nothing, (l, tt))
+step-by l (Steps.first {o} {n} {w = w} e h) = before-in-order o (Some n) (settling o n) w (settling-in-order o n l) (line-in-order l tt h)
+step-by h (Steps.within w) = line-in-order (h .0) (h .1) w
+step-by h Steps.null-after-cr = tt
+step-by h (Steps.end {d} {k} {c}) = end-in-order d k c (h .0) (h .1)
+step-by h (Steps.no-line-feed n m) = tt
+
 pub step-in-order : (s : State) (b : ℕ) → Sound s → Steps-in-order (open-in s) (step s b)
-step-in-order (in-marks o n) b l = go (eqb b quote-mark) (ltb n deepest) refl
-  where
-    go : (x y : Bool) → ltb n deepest ≡ y → Steps-in-order o (cond x (cond y (hands [] (in-marks o (n + 1))) (refuses TooDeep)) (first-byte o n b))
-    go true true e = (In-order.nothing, omega (arith, ltb-true n deepest e))
-    go true false e = tt
-    go false y e = first-in-order o n b l
-step-in-order (in-content d k c) b h = line-in-order d k c b (h .0) (h .1)
-step-in-order (behind-cr d k c) b h = go (eqb b 0) (eqb b 0x0A)
-  where
-    go : (x y : Bool) → Steps-in-order (Some d) (cond x (refuses BarredByte) (cond y (line-end d k c) (refuses Unpaired)))
-    go true y = tt
-    go false true = end-in-order d k c (h .0) (h .1)
-    go false false = tt
+step-in-order s b h = step-by h (steps s b)
 
 abbrev pub Finishes-in-order : Option ℕ → Result (List Event) Cause → Type 0
 Finishes-in-order o (Ok es) = In-order o es None
@@ -151,8 +129,8 @@ finished-in-order fs es o (Ok s) h k = go (finish s) (subst (λ (p : Option ℕ)
   where
     go : (r : Result (List Event) Cause) → Finishes-in-order o r → behind-events fs r ≡ Ok es → In-order None es None
     go (Ok gs) w e = let same : fs ++ gs ≡ es = cc in subst (λ (hs : List Event). In-order None hs None) same (in-order-then h w)
-    go (Err c) w e = let z : _≡_ {A = ℕ} 0 1 = cc in absurd (omega arith)
-finished-in-order fs es o (Err c) h k = λ e. let z : _≡_ {A = ℕ} 0 1 = cc in absurd (omega arith)
+    go (Err c) w e = absurd (err-ok e)
+finished-in-order fs es o (Err c) h k = λ e. absurd (err-ok e)
 
 pub handed-in-order : Handed-in-order
 handed-in-order bs =

@@ -1,4 +1,7 @@
+pub mod Constructors
 pub mod Joins
+pub mod Cleaning
+pub mod Steps
 pub mod Runs
 pub mod Marks
 pub mod Signatures

@@ -19,6 +19,7 @@ use Rattle.reading.specs.Paragraphs.{open-after}
 use Rattle.reading.specs.Events.{Event, opened, ended}
 use Rattle.reading.specs.Machine.{State, in-marks, in-content, at-line, held, hands, refuses, Step, with-before, goes-on, settling, step}
 use Rattle.reading.specs.Runs.{run-by, run, Run}
+use Rattle.reading.proofs.Constructors.{err-ok}
 use Rattle.reading.proofs.Runs.{Goes, goes-as, goes-byte}
 use Rattle.reading.proofs.Contents.{apart, told-line, line, content-line}
 
@@ -55,7 +56,7 @@ led {s} {t} {u} {b} {bs} es {fs} e h = record { runs = ap (λ (w : Step). run-by
 
     go : (w : Step) → run-by w rest ≡ record { handed = fs; left = Ok u } → run-by (with-before es w) rest ≡ record { handed = es ++ fs; left = Ok u }
     go (hands gs v) k = ap (λ (hs : List Event). record { handed = hs; left = rest v .left }) (append-assoc es gs (rest v .handed)) ∙ ap (λ (r : Run). record { handed = es ++ r .handed; left = r .left }) k
-    go (refuses c) k = let f = ap (λ (r : Run). r .left) k in let z : _≡_ {A = ℕ} 0 1 = cc in absurd (omega arith)
+    go (refuses c) k = absurd (err-ok (ap (λ (r : Run). r .left) k))
 
 -- bytes are read as a line
 abbrev Reads-line : Option ℕ → ℕ → List ℕ → Line → Type 0

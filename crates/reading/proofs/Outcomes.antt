@@ -16,6 +16,7 @@ use Rattle.reading.specs.Machine.{State, in-marks, in-content, behind-cr, star
 use Rattle.reading.specs.Runs.{run-by, run, finish-by, behind-events}
 use Rattle.reading.specs.Laws.{Only-lines-read}
 use Rattle.reading.specs.Refusals.{First-refused}
+use Rattle.reading.proofs.Constructors.{err-ok}
 use Rattle.reading.proofs.Standing.{Stands, Ended, After, step-after}
 
 -- bytes that were taken: whole lines, and the beginning of another
@@ -71,9 +72,9 @@ start-outcome bs = run-outcome start [] bs (omega arith, refl)
 -- a finish that is not refused stands at a line beginning
 finished-line : (s : State) (q : Text) (fs es : List Event) → behind-events fs (finish s) ≡ Ok es → Stands s q → q ≡ []
 finished-line (in-marks o zero) q fs es e h = h .1
-finished-line (in-marks o (suc n)) q fs es e h = let z : _≡_ {A = ℕ} 0 1 = cc in absurd (omega arith)
-finished-line (in-content d k c) q fs es e h = let z : _≡_ {A = ℕ} 0 1 = cc in absurd (omega arith)
-finished-line (behind-cr d k c) q fs es e h = let z : _≡_ {A = ℕ} 0 1 = cc in absurd (omega arith)
+finished-line (in-marks o (suc n)) q fs es e h = absurd (err-ok e)
+finished-line (in-content d k c) q fs es e h = absurd (err-ok e)
+finished-line (behind-cr d k c) q fs es e h = absurd (err-ok e)
 
 pub only-lines-read : Only-lines-read
 only-lines-read bs es = go (run start bs .left) (start-outcome bs)
@@ -82,4 +83,4 @@ only-lines-read bs es = go (run start bs .left) (start-outcome bs)
     go (Ok s) w e =
         let none = finished-line s (w .line) (run start bs .handed) es e (w .stands) in
         (w .lines, w .readable, w .is ∙ ap (λ (t : Text). text-of (w .lines) ++ t) none ∙ append-nil (text-of (w .lines)))
-    go (Err c) w e = let z : _≡_ {A = ℕ} 0 1 = cc in absurd (omega arith)
+    go (Err c) w e = absurd (err-ok e)

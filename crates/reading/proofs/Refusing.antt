@@ -22,11 +22,13 @@ use Rattle.reading.specs.Events.{Event}
 use Rattle.reading.specs.Machine.{State, in-marks, in-content, behind-cr, at-line, start, refuses, step, finish}
 use Rattle.reading.specs.Runs.{Run, run, finish-by, behind-events, read}
 use Rattle.reading.specs.Refusals.{Refused, First-refused, Begun, Unfinished, Refusals}
+use Rattle.reading.proofs.Constructors.{ok-err}
+use Rattle.reading.proofs.Cleaning.{clean-cr}
 use Rattle.reading.proofs.Marks.{marks-clean, all-marks, marks-all}
 use Rattle.reading.proofs.Lines.{open-behind, lines-go}
 use Rattle.reading.proofs.Standing.{Stands, marks-readable}
 use Rattle.reading.proofs.Outcomes.{Outcome, start-outcome}
-use Rattle.reading.proofs.InLine.{no-cr, left-then, one-left, At, line-taken, next, cr-taken}
+use Rattle.reading.proofs.InLine.{left-then, one-left, At, line-taken, next, cr-taken}
 
 -- the greatest depth leaves no room for a quote mark
 deep : (s : State) → Stands s (replicate deepest quote-mark) → step s quote-mark ≡ refuses TooDeep
@@ -34,7 +36,7 @@ deep (in-marks o n) w =
     let full : deepest ≤ n = omega (arith, ap length (w .1) ∙ length-replicate n quote-mark) in
     rw (le-ltb n deepest full) refl
 deep (in-content d k c) w = absurd (both-ways (all-marks (replicate deepest quote-mark)) (w .marked) (marks-all deepest))
-deep (behind-cr d k c) w = absurd (no-cr (w .0) [] (subst Clean (w .2) (marks-clean deepest)))
+deep (behind-cr d k c) w = absurd (clean-cr (w .0) [] (subst Clean (w .2) (marks-clean deepest)))
 
 -- a byte that is refused behind the bytes of a line
 refused-at : (o : Option ℕ) (q : Text) (b : ℕ) (c : Cause) → Refused q b c → (a : At o q) × (step (a .state) b ≡ refuses c)
@@ -90,8 +92,8 @@ some-marked [] e = absurd (both-ways true e refl)
 some-marked (b ∷ q) e = omega arith
 
 stopped-inside : (s : State) (q : Text) (fs : List Event) (c : Cause) → Stands s q → behind-events fs (finish s) ≡ Err c → (c ≡ Incomplete) × (0 < length q)
-stopped-inside (in-marks None zero) q fs c w e = let z : _≡_ {A = ℕ} 0 1 = cc in absurd (omega arith)
-stopped-inside (in-marks (Some d) zero) q fs c w e = let z : _≡_ {A = ℕ} 0 1 = cc in absurd (omega arith)
+stopped-inside (in-marks None zero) q fs c w e = absurd (ok-err e)
+stopped-inside (in-marks (Some d) zero) q fs c w e = absurd (ok-err e)
 stopped-inside (in-marks o (suc n)) q fs c w e = (cc, omega (arith, ap length (w .1) ∙ length-replicate (suc n) quote-mark))
 stopped-inside (in-content d k b) q fs c w e = (cc, some-marked q (w .marked))
 stopped-inside (behind-cr d k b) q fs c w e = (cc, omega (arith, ap length (w .2) ∙ length-append (w .0) (0x0D ∷ [])))

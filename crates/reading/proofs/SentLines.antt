@@ -17,17 +17,15 @@ use Rattle.folding.proofs.Reading.{line-reads as piece-reads, foldings-read-bac
 use Rattle.reading.specs.Lines.{Clean, Readable}
 use Rattle.reading.specs.Sent.{Sent, Sendable, sent-lines}
 use Rattle.reading.proofs.Marks.{marks-clean}
-use Rattle.reading.proofs.Joins.{all-front, all-parts}
-
-abbrev Unbarred : ℕ → Type 0
-Unbarred b = barred b ≡ false
+use Rattle.reading.proofs.Joins.{all-parts}
+use Rattle.reading.proofs.Cleaning.{clean-append, clean-front}
 
 -- a settled text has no other bytes than the text
 settled-clean : (t : Text) → Clean t → Clean (settled t)
 settled-clean t h = ⊎-elim
     (λ (e : t ≡ signature). subst Clean (e ∙ sym (ap settled e)) h)
     (λ (e : settled t ≡ trimmed t). let r = trimmed-rest t in
-    subst Clean (sym e) (all-front Unbarred (trimmed t) (replicate (r .0) space) (subst Clean (r .1) h)))
+    subst Clean (sym e) (clean-front (trimmed t) (replicate (r .0) space) (subst Clean (r .1) h)))
     (settled-cases t)
 
 -- the lines of its pieces
@@ -37,8 +35,8 @@ stuffing-clean false = tt
 
 line-readable : (d : ℕ) (p : Text) → d ≤ deepest → Clean p → Readable (bare-line d p)
 line-readable d p s h = record {
-  clean = all-append Unbarred (replicate d quote-mark) (stuffing (stuffed d p) ++ p) (marks-clean d)
-      (all-append Unbarred (stuffing (stuffed d p)) p (stuffing-clean (stuffed d p)) h);
+  clean = clean-append (replicate d quote-mark) (stuffing (stuffed d p) ++ p) (marks-clean d)
+      (clean-append (stuffing (stuffed d p)) p (stuffing-clean (stuffed d p)) h);
   shallow = subst (λ (l : Line). l .depth ≤ deepest) (sym (piece-reads d p)) s;
 }
 
@@ -51,5 +49,5 @@ sent-readable [] h = tt
 sent-readable (p ∷ ps) h =
     let q = h .0 in
     let back = foldings-read-back (p .depth) (q .width) (p .text) (p .folded) (q .folds) in
-    let clean = all-parts Unbarred (pieces (p .folded)) (subst Clean (sym (back .text)) (settled-clean (p .text) (q .clean))) in
+    let clean = all-parts (λ b. barred b ≡ false) (pieces (p .folded)) (subst Clean (sym (back .text)) (settled-clean (p .text) (q .clean))) in
     all-append Readable (map (bare-line (p .depth)) (pieces (p .folded))) (sent-lines ps) (lines-readable (p .depth) (pieces (p .folded)) (q .shallow) clean) (sent-readable ps (h .1))

@@ -9,6 +9,7 @@ use Rattle.std.specs.shelf.Text.{sameBytes}
 use Rattle.std.proofs.shelf.Tests.{both-ways, and-parts, and-from, eqb-true}
 use Rattle.folding.specs.Text.{Text, space, signature, ends-in-space}
 use Rattle.reading.specs.Machine.{beginning-of}
+use Rattle.reading.specs.Held.{Told-by-bytes}
 
 -- a beginning of a beginning is one
 pub beginning-shorter : (t u s : Text) → beginning-of (t ++ u) s ≡ true → beginning-of t s ≡ true
@@ -41,3 +42,11 @@ beginning-ends (a ∷ b ∷ c ∷ d ∷ t) e h =
     let p = and-parts (eqb a 0x2D) (eqb b 0x2D && (eqb c space && false)) e in
     let q = and-parts (eqb b 0x2D) (eqb c space && false) (p .1) in
     absurd (both-ways false refl (and-parts (eqb c space) false (q .1) .1))
+
+-- by the number of bytes
+pub told-by-bytes : Told-by-bytes
+told-by-bytes [] = (refl, refl)
+told-by-bytes (a ∷ []) = (grind arith, grind arith)
+told-by-bytes (a ∷ b ∷ []) = (grind arith, grind arith)
+told-by-bytes (a ∷ b ∷ c ∷ []) = (grind arith, grind arith)
+told-by-bytes (a ∷ b ∷ c ∷ d ∷ t) = (grind arith, grind arith)

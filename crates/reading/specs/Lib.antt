@@ -3,6 +3,7 @@ pub mod Paragraphs
 pub mod Events
 pub mod Machine
 pub mod Runs
+pub mod Held
 pub mod Laws
 pub mod Refusals
 pub mod Sent

@@ -2,6 +2,7 @@
 
 ghost use Rattle.reading.specs.Laws.{Bytes-in-turn, Contents-kept, Lines-read, Only-lines-read, Handed-in-order};
 ghost use Rattle.reading.specs.Refusals.{Refusals};
+ghost use Rattle.reading.specs.Held.{Told-by-bytes};
 ghost use Rattle.reading.specs.Sent.{Sent-reads-back};
 ghost use Rattle.reading.specs.Mails.{Mails};
 
@@ -13,6 +14,7 @@ pub fn readings_stand() -> u8
     ensures only { λ _. ⌜ Only-lines-read ⌝ }
     ensures order { λ _. ⌜ Handed-in-order ⌝ }
     ensures refusals { λ _. ⌜ Refusals ⌝ }
+    ensures held { λ _. ⌜ Told-by-bytes ⌝ }
     ensures back { λ _. ⌜ Sent-reads-back ⌝ }
     ensures mails { λ _. ⌜ Mails ⌝ }
 {

@@ -4,6 +4,7 @@ use Rattle.reading.proofs.Lines.{lines-read}
 use Rattle.reading.proofs.Outcomes.{only-lines-read}
 use Rattle.reading.proofs.Refusing.{refusals}
 use Rattle.reading.proofs.InOrder.{handed-in-order}
+use Rattle.reading.proofs.Signatures.{told-by-bytes}
 use Rattle.reading.proofs.SentBack.{sent-reads-back}
 use Rattle.reading.proofs.Mails.{mails}
 use Rattle.reading.proofs.readings_stand.Needs as need
@@ -16,6 +17,7 @@ returns c = record {
   only = only-lines-read;
   order = handed-in-order;
   refusals = refusals;
+  held = told-by-bytes;
   back = sent-reads-back;
   mails = mails;
 }
