@@ -18,4 +18,5 @@ pub mod InOrder
 pub mod Cutting
 pub mod SentLines
 pub mod SentBack
+pub mod Apart
 pub mod Mails

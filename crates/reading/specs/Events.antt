@@ -1,4 +1,4 @@
--- What is handed on of paragraphs.
+-- What a reader hands on of paragraphs.
 use mathlib.Core.List.{List, [], _∷_, _++_, map}
 use Prim.Native.Nat.{ℕ}
 use Rattle.std.specs.declared.option.Option.{Option}
@@ -7,7 +7,7 @@ use Rattle.std.specs.shelf.Lists.{joined}
 use Rattle.folding.specs.Text.{Text}
 use Rattle.reading.specs.Paragraphs.{Paragraph}
 
--- a paragraph is opened at a depth, has a text byte more, or is ended; the number by which an end names it is that which its
+-- a paragraph is opened at a depth, goes on with a text byte, or is ended; the number by which a taker wants it named is what the
 -- open was answered with
 pub data Event : Type 0 where
   opened : ℕ → Event
@@ -28,11 +28,12 @@ whole p = begun p ++ ended ∷ []
 abbrev pub told : List Paragraph → List Event
 told ps = joined whole ps
 
--- the same, but without the last end if a paragraph is still open
+-- the end of a paragraph, unless it is still open
 abbrev pub end-unless : Option ℕ → List Event
 end-unless None = ended ∷ []
 end-unless (Some d) = []
 
+-- paragraphs in order, the last without its end if it is still open
 abbrev pub told-so-far : Option ℕ → List Paragraph → List Event
 told-so-far o [] = []
 told-so-far o (p ∷ []) = begun p ++ end-unless o

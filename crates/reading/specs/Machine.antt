@@ -23,9 +23,9 @@ pub data Content : Type 0 where
   passed : Bool → Content
 
 pub data State : Type 0 where
-  -- behind quote marks, n of them, and nothing else of a line; with the depth of the open paragraph, if any
+  -- behind n quote marks and nothing else of a line; the depth of the paragraph that is open, if any, comes first
   in-marks : Option ℕ → ℕ → State
-  -- in a line of depth d; whether its paragraph was open before the line; the content so far
+  -- in a line of a settled depth: that depth, whether its paragraph was open before the line, and its content so far
   in-content : ℕ → Bool → Content → State
   -- the same, behind the line's 0D
   behind-cr : ℕ → Bool → Content → State
@@ -43,6 +43,7 @@ pub data Step : Type 0 where
   hands : List Event → State → Step
   refuses : Cause → Step
 
+-- whether the first text is a beginning of the second
 abbrev pub beginning-of : Text → Text → Bool
 beginning-of [] s = true
 beginning-of (b ∷ t) [] = false

@@ -12,8 +12,8 @@ pub record Paragraph : Type 0 where
   pub depth : ℕ
   pub text : Text
 
--- the text of a paragraph from its line l on, with the lines behind that: the contents joined, as long as a line is continued by
--- the next
+-- the text of a paragraph from its line l on, with the lines ls behind that: the contents joined, as far as each line is continued
+-- by the next
 abbrev pub text-from : Line → List Line → Text
 text-from l [] = l .content
 text-from l (m ∷ ls) = l .content ++ cond (continued-by l m) (text-from m ls) []
@@ -22,7 +22,7 @@ text-from l (m ∷ ls) = l .content ++ cond (continued-by l m) (text-from m ls) 
 abbrev pub beginning-with : Line → List Line → Paragraph
 beginning-with l ls = record { depth = l .depth; text = text-from l ls }
 
--- the paragraphs that begin behind the line l: one with each line by which the line before it is not continued
+-- the paragraphs that begin behind the line l: one with each line that does not continue the line before it
 abbrev pub behind : Line → List Line → List Paragraph
 behind l [] = []
 behind l (m ∷ ls) = cond (continued-by l m) (behind m ls) (beginning-with m ls ∷ behind m ls)
@@ -31,10 +31,11 @@ abbrev pub paragraphs : List Line → List Paragraph
 paragraphs [] = []
 paragraphs (l ∷ ls) = beginning-with l ls ∷ behind l ls
 
--- the depth of the paragraph that is still open behind the last line: that line is flowed
+-- a flowed line leaves its paragraph open: the depth of that, if any
 abbrev pub open-after : Line → Option ℕ
 open-after l = cond (is-flowed (kind (l .content))) (Some (l .depth)) None
 
+-- and behind all lines
 abbrev pub still-open : List Line → Option ℕ
 still-open [] = None
 still-open (l ∷ []) = open-after l

@@ -49,3 +49,7 @@ pub record Reads-back (ps : List Sent) : Type 0 where
 
 abbrev pub Sent-reads-back : Type 0
 Sent-reads-back = (ps : List Sent) → All Sendable ps → Reads-back ps
+
+-- different paragraphs never share their wire bytes
+abbrev pub Sent-apart : Type 0
+Sent-apart = (ps qs : List Sent) → All Sendable ps → All Sendable qs → sent-bytes ps ≡ sent-bytes qs → settled-paragraphs ps ≡ settled-paragraphs qs

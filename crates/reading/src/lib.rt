@@ -3,7 +3,7 @@
 ghost use Rattle.reading.specs.Laws.{Bytes-in-turn, Contents-kept, Lines-read, Only-lines-read, Handed-in-order};
 ghost use Rattle.reading.specs.Refusals.{Refusals};
 ghost use Rattle.reading.specs.Held.{Told-by-bytes};
-ghost use Rattle.reading.specs.Sent.{Sent-reads-back};
+ghost use Rattle.reading.specs.Sent.{Sent-reads-back, Sent-apart};
 ghost use Rattle.reading.specs.Mails.{Mails};
 
 /// What is proved of readings, a clause each.
@@ -16,6 +16,7 @@ pub fn readings_stand() -> u8
     ensures refusals { λ _. ⌜ Refusals ⌝ }
     ensures held { λ _. ⌜ Told-by-bytes ⌝ }
     ensures back { λ _. ⌜ Sent-reads-back ⌝ }
+    ensures apart { λ _. ⌜ Sent-apart ⌝ }
     ensures mails { λ _. ⌜ Mails ⌝ }
 {
     0

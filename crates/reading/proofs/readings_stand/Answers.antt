@@ -6,6 +6,7 @@ use Rattle.reading.proofs.Refusing.{refusals}
 use Rattle.reading.proofs.InOrder.{handed-in-order}
 use Rattle.reading.proofs.Signatures.{told-by-bytes}
 use Rattle.reading.proofs.SentBack.{sent-reads-back}
+use Rattle.reading.proofs.Apart.{sent-apart}
 use Rattle.reading.proofs.Mails.{mails}
 use Rattle.reading.proofs.readings_stand.Needs as need
 
@@ -19,5 +20,6 @@ returns c = record {
   refusals = refusals;
   held = told-by-bytes;
   back = sent-reads-back;
+  apart = sent-apart;
   mails = mails;
 }
