@@ -1,0 +1,10 @@
+pub mod Lines
+pub mod Paragraphs
+pub mod Events
+pub mod Machine
+pub mod Runs
+pub mod Held
+pub mod Laws
+pub mod Refusals
+pub mod Sent
+pub mod Mails
