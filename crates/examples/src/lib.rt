@@ -2,6 +2,8 @@
 ghost use Rattle.examples.specs.Mails.{Mails};
 
 #[cfg(test)]
+mod composer_orders;
+#[cfg(test)]
 mod dot_refusals;
 #[cfg(test)]
 mod end_refusals;
