@@ -7,7 +7,7 @@ use Rattle.folding.specs.Text.{Text}
 use Rattle.reading.specs.Paragraphs.{Paragraph}
 use Rattle.reading.specs.Events.{Event, ended, texts, told}
 use Rattle.reading.specs.Runs.{read}
-use Rattle.reading.specs.Sent.{sent-bytes, settled-paragraphs, Sent-apart}
+use Rattle.reading.specs.Sent.{settled-paragraphs, Sent-apart}
 use Rattle.reading.proofs.Constructors.{same-ok}
 use Rattle.reading.proofs.SentBack.{sent-reads-back}
 

@@ -62,7 +62,11 @@ record Goes-on (d : ℕ) (k : Bool) (c t u : Text) : Type 0 where
 content-goes-on : (d : ℕ) (k : Bool) (c t u : Text) → c ++ t ≡ u → Clean t → Goes-on d k c t u
 content-goes-on d k c [] u e h =
     let q : c ≡ u = sym (append-nil c) ∙ e in
-    record { events = []; goes = subst (λ (v : Text). Goes (in-content d k (stands c)) [] [] (in-content d k (stands v))) q goes-none; adds = append-nil (gone c) ∙ ap gone q }
+    record {
+      events = [];
+      goes = subst (λ (v : Text). Goes (in-content d k (stands c)) [] [] (in-content d k (stands v))) q goes-none;
+      adds = append-nil (gone c) ∙ ap gone q;
+    }
 content-goes-on d k c (b ∷ t) u e h =
     let f = byte-goes-on d k c b (h .0) in
     let r = content-goes-on d k (c ++ b ∷ []) t u (append-assoc c (b ∷ []) t ∙ e) (h .1) in
@@ -107,4 +111,5 @@ content-line d k c h =
     let f = content-ends d k c in
     let end : Goes (behind-cr d k (stands c)) (0x0A ∷ []) (f .events ++ []) (at-line (open-after (line d c))) = goes-byte (f .ends) goes-none in
     let cr : Goes (in-content d k (stands c)) crlf (f .events ++ []) (at-line (open-after (line d c))) = goes-byte refl end in
-    goes-as (goes-then (r .goes) cr) (ap (λ (es : List Event). r .events ++ es) (append-nil (f .events)) ∙ ap (λ (es : List Event). es ++ f .events) (r .adds) ∙ f .adds)
+    goes-as (goes-then (r .goes) cr)
+    (ap (λ (es : List Event). r .events ++ es) (append-nil (f .events)) ∙ ap (λ (es : List Event). es ++ f .events) (r .adds) ∙ f .adds)

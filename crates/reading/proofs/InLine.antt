@@ -24,9 +24,8 @@ use Rattle.reading.proofs.Standing.{Stands}
 use Rattle.reading.proofs.Outcomes.{Outcome, run-outcome}
 
 -- bytes behind others
-pub left-then : (s : State) (bs cs : List ℕ) (r : Result State Cause) → run s bs .left ≡ r → run s (bs ++ cs) .left ≡ run-on [] r cs .left
-left-then s bs cs (Ok t) e = ap (λ (w : Run). w .left) (bytes-in-turn s bs cs) ∙ ap (λ (l : Result State Cause). run-on (run s bs .handed) l cs .left) e
-left-then s bs cs (Err c) e = ap (λ (w : Run). w .left) (bytes-in-turn s bs cs) ∙ ap (λ (l : Result State Cause). run-on (run s bs .handed) l cs .left) e
+pub left-then : (s : State) (bs cs : List ℕ) (r : Result State Cause) → run s bs .left ≡ r → run s (bs ++ cs) .left ≡ run-on (run s bs .handed) r cs .left
+left-then s bs cs r e = ap (λ (w : Run). w .left) (bytes-in-turn s bs cs) ∙ ap (λ (l : Result State Cause). run-on (run s bs .handed) l cs .left) e
 
 pub one-left : (s : State) (b : ℕ) (bs : List ℕ) (w : Step) → step s b ≡ w → run s (b ∷ bs) .left ≡ run-by w (λ t. run t bs) .left
 one-left s b bs w e = ap (λ (v : Step). run-by v (λ t. run t bs) .left) e

@@ -20,8 +20,9 @@ use Rattle.reading.specs.Machine.{Content, held, passed, State, in-marks, in-c
 use Rattle.reading.specs.Runs.{Run, run-by, run, finish-by, behind-events}
 use Rattle.reading.proofs.Constructors.{err-ok}
 use Rattle.reading.proofs.Cleaning.{clean-push}
+use Rattle.reading.proofs.Signatures.{beginning-clean}
 use Rattle.reading.proofs.Steps.{Content-step, Line-step, Steps, steps}
-use Rattle.reading.specs.Laws.{open-in, In-order, Handed-in-order}
+use Rattle.reading.specs.InOrder.{open-in, In-order, Sound-content, Sound, Handed-in-order}
 
 pub in-order-then : {o p q : Option ℕ} {es fs : List Event} → In-order o es p → In-order p fs q → In-order o (es ++ fs) q
 in-order-then In-order.nothing k = k
@@ -33,24 +34,15 @@ texts-in-order : (d : ℕ) (t : Text) → Clean t → In-order (Some d) (texts t
 texts-in-order d [] h = In-order.nothing
 texts-in-order d (b ∷ t) h = In-order.byte (h .0) (texts-in-order d t (h .1))
 
--- what holds in every state that is reached
-abbrev Sound-content : Content → Type 0
-Sound-content (held h) = Clean h
-Sound-content (passed s) = Unit {0}
-
-abbrev pub Sound : State → Type 0
-Sound (in-marks o n) = n ≤ deepest
-Sound (in-content d k c) = (d ≤ deepest) × Sound-content c
-Sound (behind-cr d k c) = (d ≤ deepest) × Sound-content c
-
 -- a step from where the paragraph of depth o is open, if any
 abbrev pub Steps-in-order : Option ℕ → Step → Type 0
 Steps-in-order o (hands es s) = In-order o es (open-in s) × Sound s
 Steps-in-order o (refuses c) = Unit {0}
 
-content-in-order : {d : ℕ} {k : Bool} {b : ℕ} {c : Content} {w : Step} → d ≤ deepest → Sound-content c → barred b ≡ false → Content-step d k b c w → Steps-in-order (Some d) w
-content-in-order {b = b} l s e (Content-step.holds {h} f) = (In-order.nothing, (l, clean-push h b s e))
-content-in-order {d} {b = b} l s e (Content-step.frees {h} f) = (texts-in-order d (h ++ b ∷ []) (clean-push h b s e), (l, tt))
+content-in-order : {d : ℕ} {k : Bool} {b : ℕ} {c : Content} {w : Step} →
+    d ≤ deepest → Sound-content c → barred b ≡ false → Content-step d k b c w → Steps-in-order (Some d) w
+content-in-order l s e (Content-step.holds f) = (In-order.nothing, (l, f))
+content-in-order {d} {b = b} l s e (Content-step.frees {h} f) = (texts-in-order d (h ++ b ∷ []) (clean-push h b (beginning-clean h s) e), (l, tt))
 content-in-order l s e Content-step.passes = (In-order.byte e In-order.nothing, (l, tt))
 
 line-in-order : {d : ℕ} {k : Bool} {c : Content} {b : ℕ} {w : Step} → d ≤ deepest → Sound-content c → Line-step d k c b w → Steps-in-order (Some d) w
@@ -74,7 +66,7 @@ before-in-order o p es (refuses c) h k = tt
 end-in-order : (d : ℕ) (k : Bool) (c : Content) → d ≤ deepest → Sound-content c → Steps-in-order (Some d) (line-end d k c)
 end-in-order d k (passed true) l s = (In-order.nothing, omega arith)
 end-in-order d k (passed false) l s = (In-order.ending In-order.nothing, omega arith)
-end-in-order d k (held h) l s = (in-order-then (go (sameBytes h signature && k)) (in-order-then (texts-in-order d h s) (In-order.ending In-order.nothing)), omega arith)
+end-in-order d k (held h) l s = (in-order-then (go (sameBytes h signature && k)) (in-order-then (texts-in-order d h (beginning-clean h s)) (In-order.ending In-order.nothing)), omega arith)
   where
     go : (x : Bool) → In-order (Some d) (cond x (ended ∷ opened d ∷ []) []) (Some d)
     go true = In-order.ending (In-order.opening l In-order.nothing)
@@ -83,8 +75,8 @@ end-in-order d k (held h) l s = (in-order-then (go (sameBytes h signature && k))
 step-by : {s : State} {b : ℕ} {w : Step} → Sound s → Steps s b w → Steps-in-order (open-in s) w
 step-by l (Steps.deeper m) = (In-order.nothing, omega arith)
 step-by l (Steps.too-deep m) = tt
-step-by l (Steps.stuffing {o} {n}) = (in-order-then (settling-in-order o n l) In-order.nothing, (l, tt))
-step-by l (Steps.first {o} {n} {w = w} e h) = before-in-order o (Some n) (settling o n) w (settling-in-order o n l) (line-in-order l tt h)
+step-by l (Steps.stuffing {o} {n}) = (in-order-then (settling-in-order o n l) In-order.nothing, (l, refl))
+step-by l (Steps.first {o} {n} {w = w} e h) = before-in-order o (Some n) (settling o n) w (settling-in-order o n l) (line-in-order l refl h)
 step-by h (Steps.within w) = line-in-order (h .0) (h .1) w
 step-by h Steps.null-after-cr = tt
 step-by h (Steps.end {d} {k} {c}) = end-in-order d k c (h .0) (h .1)
@@ -118,13 +110,15 @@ run-in-order : (s : State) (bs : List ℕ) → Sound s → Runs-in-order (open-i
 run-in-order s [] h = record { open-then = open-in s; so-far = In-order.nothing; leaves = (refl, h) }
 run-in-order s (b ∷ bs) h = go (step s b) (step-in-order s b h) (λ t. run-in-order t bs)
   where
-    go : (w : Step) → Steps-in-order (open-in s) w → ((t : State) → Sound t → Runs-in-order (open-in t) (run t bs)) → Runs-in-order (open-in s) (run-by w (λ t. run t bs))
+    go : (w : Step) → Steps-in-order (open-in s) w → ((t : State) → Sound t → Runs-in-order (open-in t) (run t bs)) →
+        Runs-in-order (open-in s) (run-by w (λ t. run t bs))
     go (hands es t) k rest =
         let r = rest t (k .1) in
         record { open-then = r .open-then; so-far = in-order-then (k .0) (r .so-far); leaves = r .leaves }
     go (refuses c) k rest = record { open-then = open-in s; so-far = In-order.nothing; leaves = tt }
 
-finished-in-order : (fs es : List Event) (o : Option ℕ) (l : Result State Cause) → In-order None fs o → Leaves l o → finish-by fs l ≡ Ok es → In-order None es None
+finished-in-order : (fs es : List Event) (o : Option ℕ) (l : Result State Cause) → In-order None fs o → Leaves l o →
+    finish-by fs l ≡ Ok es → In-order None es None
 finished-in-order fs es o (Ok s) h k = go (finish s) (subst (λ (p : Option ℕ). Finishes-in-order p (finish s)) (k .0) (finish-in-order s))
   where
     go : (r : Result (List Event) Cause) → Finishes-in-order o r → behind-events fs r ≡ Ok es → In-order None es None
@@ -138,6 +132,6 @@ handed-in-order bs =
     record {
       open-then = r .open-then;
       so-far = r .so-far;
-      state = λ s e. let w : Leaves (Ok s) (r .open-then) = subst (λ (l : Result State Cause). Leaves l (r .open-then)) e (r .leaves) in w .0;
+      state = λ s e. subst (λ (l : Result State Cause). Leaves l (r .open-then)) e (r .leaves);
       finished = λ es. finished-in-order (run start bs .handed) es (r .open-then) (run start bs .left) (r .so-far) (r .leaves);
     }

@@ -55,7 +55,9 @@ led {s} {t} {u} {b} {bs} es {fs} e h = record { runs = ap (λ (w : Step). run-by
     rest v = run v bs
 
     go : (w : Step) → run-by w rest ≡ record { handed = fs; left = Ok u } → run-by (with-before es w) rest ≡ record { handed = es ++ fs; left = Ok u }
-    go (hands gs v) k = ap (λ (hs : List Event). record { handed = hs; left = rest v .left }) (append-assoc es gs (rest v .handed)) ∙ ap (λ (r : Run). record { handed = es ++ r .handed; left = r .left }) k
+    go (hands gs v) k =
+        ap (λ (hs : List Event). record { handed = hs; left = rest v .left }) (append-assoc es gs (rest v .handed))
+        ∙ ap (λ (r : Run). record { handed = es ++ r .handed; left = r .left }) k
     go (refuses c) k = absurd (err-ok (ap (λ (r : Run). r .left) k))
 
 -- bytes are read as a line
@@ -67,7 +69,9 @@ unmarked : (o : Option ℕ) (n : ℕ) (c : Text) (bs : List ℕ) →
     Goes (in-marks o n) bs (settling o n ++ (apart (goes-on o n) n c ++ told-line (line n c))) (at-line (open-after (line n c))) →
     Reads-line o n bs (line n c)
 unmarked o n c bs h =
-    goes-as h (sym (append-assoc (settling o n) (apart (goes-on o n) n c) (told-line (line n c))) ∙ ap (λ (es : List Event). es ++ told-line (line n c)) (parts o n c))
+    goes-as h
+    (sym (append-assoc (settling o n) (apart (goes-on o n) n c) (told-line (line n c)))
+    ∙ ap (λ (es : List Event). es ++ told-line (line n c)) (parts o n c))
 
 -- a line with n quote marks before it
 abbrev deepened : ℕ → Line → Line

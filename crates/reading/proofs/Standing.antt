@@ -78,7 +78,8 @@ content-after q h (Content-step.holds e) = inl h
 content-after q h (Content-step.frees e) = inl h
 content-after q h Content-step.passes = inl h
 
-line-after : (q : Text) {d : ℕ} {k : Bool} {c : Content} {b : ℕ} {w : Step} → Readable q → (barred b ≡ false → Within (q ++ b ∷ [])) → Line-step d k c b w → After q b w
+line-after : (q : Text) {d : ℕ} {k : Bool} {c : Content} {b : ℕ} {w : Step} →
+    Readable q → (barred b ≡ false → Within (q ++ b ∷ [])) → Line-step d k c b w → After q b w
 line-after q r h Line-step.null = Refused.barred r
 line-after q r h Line-step.line-feed = Refused.no-cr r
 line-after q r h Line-step.return = inl (q, r, refl)

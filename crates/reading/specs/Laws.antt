@@ -1,21 +1,17 @@
 -- What is proved of readings.
 use mathlib.Core.Path.{_≡_}
-use mathlib.Core.List.{List, [], _∷_, _++_}
-use mathlib.Core.Bool.{false}
-use Prim.Native.Nat.{ℕ, _≤_}
+use mathlib.Core.List.{List, _++_}
+use Prim.Native.Nat.{ℕ}
 use Rattle.std.specs.shelf.Lists.{All, joined}
-use Rattle.std.specs.declared.option.Option.{Option}
-use Rattle.std.specs.declared.option.Option.the-variants.{Some, None}
 use Rattle.std.specs.declared.result.Result.{Result}
 use Rattle.std.specs.declared.result.Result.the-variants.{Ok, Err}
 use Rattle.fault.specs.declared.cause.Cause.{Cause}
-use Rattle.taker.specs.Paragraph.{barred, deepest}
 use Rattle.folding.specs.Text.{Text}
 use Rattle.folding.specs.Reading.{Line}
 use Rattle.reading.specs.Lines.{Readable, text-of, read-lines}
 use Rattle.reading.specs.Paragraphs.{paragraphs, still-open}
-use Rattle.reading.specs.Events.{Event, opened, text, ended, told, told-so-far}
-use Rattle.reading.specs.Machine.{State, in-marks, in-content, behind-cr, at-line, start}
+use Rattle.reading.specs.Events.{Event, text, told, told-so-far}
+use Rattle.reading.specs.Machine.{State, at-line, start}
 use Rattle.reading.specs.Runs.{Run, run, read}
 
 -- what bytes hand on is what a beginning of them hands on, and then what the rest hands on from there
@@ -45,27 +41,3 @@ Lines-read = (ls : List Text) → All Readable ls → Read-as-paragraphs ls
 -- no other bytes are taken whole and finished on
 abbrev pub Only-lines-read : Type 0
 Only-lines-read = (bs : List ℕ) (es : List Event) → read bs ≡ Ok es → (ls : List Text) × All Readable ls × (bs ≡ text-of ls)
-
--- the depth of the paragraph that is open in a state
-abbrev pub open-in : State → Option ℕ
-open-in (in-marks o n) = o
-open-in (in-content d k c) = Some d
-open-in (behind-cr d k c) = Some d
-
--- events in order, by the depth of the paragraph that is open before and behind them: one is opened where none is open, text and
--- end are those of the open one, no depth is too great and no text byte is barred
-pub data In-order : Option ℕ → List Event → Option ℕ → Type 0 where
-  nothing : {o : Option ℕ} → In-order o [] o
-  opening : {d : ℕ} {es : List Event} {o : Option ℕ} → d ≤ deepest → In-order (Some d) es o → In-order None (opened d ∷ es) o
-  byte : {d b : ℕ} {es : List Event} {o : Option ℕ} → barred b ≡ false → In-order (Some d) es o → In-order (Some d) (text b ∷ es) o
-  ending : {d : ℕ} {es : List Event} {o : Option ℕ} → In-order None es o → In-order (Some d) (ended ∷ es) o
-
--- whatever bytes are read, what they hand on is in order, and so is what the finish hands on
-pub record Hands-in-order (bs : List ℕ) : Type 0 where
-  pub open-then : Option ℕ
-  pub so-far : In-order None (run start bs .handed) open-then
-  pub state : (s : State) → run start bs .left ≡ Ok s → open-in s ≡ open-then
-  pub finished : (es : List Event) → read bs ≡ Ok es → In-order None es None
-
-abbrev pub Handed-in-order : Type 0
-Handed-in-order = (bs : List ℕ) → Hands-in-order bs

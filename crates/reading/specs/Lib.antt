@@ -5,6 +5,7 @@ pub mod Machine
 pub mod Runs
 pub mod Held
 pub mod Laws
+pub mod InOrder
 pub mod Refusals
 pub mod Sent
 pub mod Mails

@@ -1,6 +1,7 @@
 // What the wire bytes of format=flowed mail (RFC 3676) mean to a reader: lines, paragraphs, and the account byte by byte.
 
-ghost use Rattle.reading.specs.Laws.{Bytes-in-turn, Contents-kept, Lines-read, Only-lines-read, Handed-in-order};
+ghost use Rattle.reading.specs.Laws.{Bytes-in-turn, Contents-kept, Lines-read, Only-lines-read};
+ghost use Rattle.reading.specs.InOrder.{Handed-in-order};
 ghost use Rattle.reading.specs.Refusals.{Refusals};
 ghost use Rattle.reading.specs.Held.{Told-by-bytes};
 ghost use Rattle.reading.specs.Sent.{Sent-reads-back, Sent-apart};
