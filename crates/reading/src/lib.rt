@@ -1,5 +1,4 @@
 // What the wire bytes of format=flowed mail (RFC 3676) mean to a reader: lines, paragraphs, and the account byte by byte.
-
 ghost use Rattle.reading.specs.Laws.{Bytes-in-turn, Contents-kept, Lines-read, Only-lines-read};
 ghost use Rattle.reading.specs.InOrder.{Handed-in-order};
 ghost use Rattle.reading.specs.Refusals.{Refusals};
@@ -7,8 +6,8 @@ ghost use Rattle.reading.specs.Held.{Told-by-bytes};
 ghost use Rattle.reading.specs.Sent.{Sent-reads-back, Sent-apart};
 ghost use Rattle.reading.specs.Mails.{Mails};
 
-/// What is proved of readings, a clause each.
-pub fn readings_stand() -> u8
+// What is proved of readings, a clause each.
+pub fn readings_stand()
     ensures in_turn { λ _. ⌜ Bytes-in-turn ⌝ }
     ensures kept { λ _. ⌜ Contents-kept ⌝ }
     ensures lines { λ _. ⌜ Lines-read ⌝ }
@@ -19,6 +18,4 @@ pub fn readings_stand() -> u8
     ensures back { λ _. ⌜ Sent-reads-back ⌝ }
     ensures apart { λ _. ⌜ Sent-apart ⌝ }
     ensures mails { λ _. ⌜ Mails ⌝ }
-{
-    0
-}
+{}
