@@ -1,6 +1,6 @@
 -- The composer as a machine over paragraph orders: which orders it refuses, and what it sends down, from what it holds now.
 use mathlib.Core.List.{List, [], _∷_, _++_}
-use mathlib.Core.Bool.{Bool, true, false, not, _||_}
+use mathlib.Core.Bool.{Bool, true, false, not}
 use Prim.Native.Nat.{ℕ, _+_}
 use lib.Dec.{eqb, leb, ltb}
 use lib.ListN.{length, drop}
@@ -12,6 +12,7 @@ use Rattle.fault.specs.declared.cause.Cause.{Cause}
 use Rattle.fault.specs.declared.cause.Cause.the-variants.{ParagraphOpen, NoParagraph, TooDeep, ParagraphLeft, BarredByte, OverLimit, NoFolding, GivenUp, WrongNumber}
 use Rattle.fault.specs.declared.layer.Layer.the-variants.{Composer}
 use Rattle.taker.specs.Paragraph.{Order, opens, texts, ends, gives-up, finishes, paragraphs}
+pub use Rattle.taker.specs.Paragraph.{barred, deepest}
 use Rattle.layer.specs.Layer.{Move, sends, stops, Machine}
 use Rattle.folding.specs.Text.{Text, trimmed, settled-behind}
 use Rattle.folding.specs.WireLine.{wire-line, wire-lines}
@@ -34,16 +35,9 @@ pub record Composing : Type 0 where
   pub opened : ℕ
   pub paragraph : Option Within
 
--- the largest depth, and the most paragraphs and the most bytes of one
-abbrev pub deepest : ℕ
-deepest = 100
-
+-- the most paragraphs, and the most bytes of one
 abbrev pub limit : ℕ
 limit = 1000000
-
--- bytes that are no text: 00, 0A, 0D
-abbrev pub barred : ℕ → Bool
-barred b = eqb b 0x00 || eqb b 0x0A || eqb b 0x0D
 
 -- the cause if the test holds, else the next
 abbrev pub refuse-if : Bool → Cause → Option Cause → Option Cause
