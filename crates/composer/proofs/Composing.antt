@@ -1,7 +1,7 @@
 -- A new composer sends the wire bytes of the paragraphs that it is given.
 use mathlib.Core.Path.{_≡_, refl, sym, ap, subst, _∙_}
 use mathlib.Core.Logic.{_↔_}
-use mathlib.Core.List.{List, [], _∷_, _++_, append-assoc, append-nil}
+use mathlib.Core.List.{List, [], _∷_, _++_, append-nil}
 use mathlib.Core.Bool.{Bool, true, false, not, _&&_}
 use Prim.Native.Nat.{ℕ, _+_, _≤_, _<_, min}
 use native.Mathlib.Omega.{arith}
@@ -16,16 +16,14 @@ use Rattle.fault.specs.declared.fault.Fault.{Fault}
 use Rattle.fault.specs.declared.cause.Cause.{Cause}
 use Rattle.fault.specs.declared.cause.Cause.the-variants.{BarredByte, OverLimit, NoFolding}
 use Rattle.fault.specs.declared.layer.Layer.the-variants.{Composer}
-use Rattle.fault.specs.Faults.{own, raise, most}
+use Rattle.fault.specs.Faults.{own, most}
 use Rattle.fault.specs.Answers.{raised}
 use Rattle.orders.specs.declared.phase.Phase.the-variants.{Running}
 use Rattle.orders.specs.Meaning.{Added, later-all}
-use Rattle.orders.specs.Lists.{addition, each}
-use Rattle.orders.proofs.Sending.{Going, none, closing}
+use Rattle.orders.proofs.Sending.{closing}
 use Rattle.sink.specs.Sink.{Sink, down}
 use Rattle.taker.specs.Paragraph.{Order, opens, texts, ends, gives-up, finishes, paragraphs, text-orders, Taker}
-use Rattle.layer.specs.Layer.{Move, sends, stops, moved, lifted, layer-means}
-use Rattle.layer.specs.Wire.{wire, behind}
+use Rattle.layer.specs.Layer.{Move, sends, moved, layer-means}
 use Rattle.layer.proofs.Wiring.{wire-adds}
 use Rattle.folding.specs.Text.{Text, trimmed, settled, settled-behind}
 use Rattle.folding.specs.WireLine.{wire-lines}
@@ -38,7 +36,7 @@ use Rattle.composer.specs.Composers.{good-start, born, new-means}
 use Rattle.composer.specs.Mails.{Paragraph, Writable, begun, given, wires, text-length, as-place, Sends-ended, Sends-open, Composes}
 use Rattle.composer.proofs.Histories.{Steps, steps-append, steps-wire, steps-whole, steps-goes, steps-going, steps-state, steps-run, place-after}
 use Rattle.composer.proofs.TextSteps.{text-state, open-at, lacks-folding-is, text-step, end-folds}
-use Rattle.composer.proofs.MailSteps.{between-at, begun-steps, mail-steps}
+use Rattle.composer.proofs.MailSteps.{begun-steps, mail-steps}
 
 -- a fault from below is not of level 0
 below-own : (x : Option Fault) (c : Cause) (n : ℕ) → raised x ≡ Some (own c Composer n) → ⊥

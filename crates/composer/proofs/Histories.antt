@@ -1,16 +1,16 @@
 -- Orders that a layer accepts one after another: the bytes that they send, and what it adds and answers behind them.
 use mathlib.Core.Path.{_≡_, refl, sym, ap, subst, _∙_}
 use mathlib.Core.List.{List, [], _∷_, _++_, append-assoc, append-nil}
-use mathlib.Core.Bool.{Bool, true, false}
+use mathlib.Core.Bool.{Bool, false}
 use Prim.Native.Nat.{ℕ}
 use Rattle.std.specs.declared.option.Option.{Option}
 use Rattle.std.specs.declared.option.Option.the-variants.{Some, None}
-use Rattle.orders.specs.Meaning.{Kind, Added, Adds, later, later-all}
+use Rattle.orders.specs.Meaning.{Kind, Adds, later, later-all}
 use Rattle.orders.specs.Steps.{place-on}
-use Rattle.orders.proofs.Sending.{Going, none, closing, going}
+use Rattle.orders.proofs.Sending.{Going, none, going}
 use Rattle.sink.specs.Sink.{down}
 use Rattle.sink.specs.Sink.{Order as SinkOrder}
-use Rattle.layer.specs.Layer.{Machine, Move, sends, stops, state-on, state-after, moved, run, run-on}
+use Rattle.layer.specs.Layer.{Machine, Move, sends, state-on, state-after, moved, run, run-on}
 use Rattle.layer.specs.Wire.{wire, wired, behind}
 use Rattle.layer.proofs.Wiring.{down-append}
 

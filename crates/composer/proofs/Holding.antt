@@ -1,7 +1,7 @@
 -- What a byte does to the text that is held, by what the line and its spaces tell.
 use mathlib.Core.Path.{_≡_, refl, sym, ap, _∙_}
 use mathlib.Core.List.{List, [], _∷_, _++_, append-assoc, append-nil}
-use mathlib.Core.Bool.{Bool, true, false, not, _&&_}
+use mathlib.Core.Bool.{Bool, true, false, not}
 use mathlib.Core.Logic.{_⊎_, inl, inr}
 use Prim.Native.Nat.{ℕ, zero, suc, _≤_}
 use lib.Dec.{eqb}
@@ -11,14 +11,12 @@ use Rattle.std.specs.Options.{isSome}
 use Rattle.std.specs.shelf.Lists.{joined}
 use Rattle.std.specs.declared.option.Option.{Option}
 use Rattle.std.specs.declared.option.Option.the-variants.{Some, None}
-use Rattle.std.proofs.shelf.Tests.{eqb-true}
 use Rattle.folding.specs.Text.{Text, space, signature, ends-in-space, trimmed, settled, settled-behind}
 use Rattle.folding.specs.WireLine.{width}
-use Rattle.folding.specs.Folded.{Folded, one-line, pieces}
+use Rattle.folding.specs.Folded.{Folded, one-line}
 use Rattle.folding.specs.Folding.{folding, from-start}
 use Rattle.folding.specs.Relation.{Last-line}
 use Rattle.folding.specs.Held.{Held, Known-break, Valid, held-with, full}
-use Rattle.folding.specs.Incremental.{held-space, send, so-far, ending}
 use Rattle.folding.proofs.Spaces.{ends-behind, settled-cases, trimmed-behind, trimmed-same, settled-same, trimmed-space}
 use Rattle.folding.proofs.Exceptions.{unbroken-last, no-exception}
 use Rattle.folding.proofs.FromStart.{from-start-last, from-start-none}

@@ -1,10 +1,10 @@
 -- Whole paragraphs, one after another.
 use mathlib.Core.Path.{_≡_, refl, sym, ap, subst, _∙_}
-use mathlib.Core.List.{List, [], _∷_, _++_, append-assoc, append-nil}
-use mathlib.Core.Bool.{Bool, true, false, not}
-use Prim.Native.Nat.{ℕ, _+_, _≤_, _<_, min}
+use mathlib.Core.List.{List, [], _∷_, _++_}
+use mathlib.Core.Bool.{Bool, not}
+use Prim.Native.Nat.{ℕ, _+_, _≤_, _<_}
 use native.Mathlib.Omega.{arith}
-use lib.Dec.{eqb, leb, ltb}
+use lib.Dec.{leb, ltb}
 use lib.ListN.{length}
 use Rattle.std.specs.declared.option.Option.{Option}
 use Rattle.std.specs.declared.option.Option.the-variants.{Some, None}
@@ -12,11 +12,11 @@ use Rattle.std.specs.shelf.Lists.{All}
 use Rattle.std.proofs.shelf.Tests.{lt-leb, le-ltb, eq-eqb}
 use Rattle.fault.specs.declared.cause.Cause.{Cause}
 use Rattle.fault.specs.declared.cause.Cause.the-variants.{TooDeep, OverLimit, WrongNumber}
-use Rattle.taker.specs.Paragraph.{Order, opens, texts, ends, text-orders}
-use Rattle.layer.specs.Layer.{sends, stops}
-use Rattle.folding.specs.Text.{Text, trimmed, settled, settled-behind}
+use Rattle.taker.specs.Paragraph.{opens, ends, text-orders}
+use Rattle.layer.specs.Layer.{sends}
+use Rattle.folding.specs.Text.{Text, trimmed, settled-behind}
 use Rattle.folding.specs.WireLine.{wire-line, wire-lines}
-use Rattle.folding.specs.Folded.{Folded, one-line, pieces, wired}
+use Rattle.folding.specs.Folded.{Folded, one-line, wired}
 use Rattle.folding.specs.Folding.{folding, wire}
 use Rattle.folding.proofs.Constructors.{same-some, some-none}
 use Rattle.folding.proofs.Agreeing.{settled-none}
@@ -25,7 +25,7 @@ use Rattle.composer.specs.Machine.{Composing, deepest, limit, refuse-if, behin
 use Rattle.composer.specs.Mails.{Paragraph, Writable, begun, given, then-wire, wires}
 use Rattle.composer.proofs.Histories.{Steps, step, steps-append}
 use Rattle.composer.proofs.Histories as histories
-use Rattle.composer.proofs.TextSteps.{text-state, open-at, text-steps, end-folds}
+use Rattle.composer.proofs.TextSteps.{open-at, text-steps, end-folds}
 
 -- none open, after n
 abbrev pub between-at : ℕ → ℕ → Composing

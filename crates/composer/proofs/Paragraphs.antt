@@ -1,21 +1,19 @@
 -- The open paragraph of the code, by what its refusals tell.
 use mathlib.Core.Path.{_≡_, refl, sym, ap, _∙_}
-use mathlib.Core.List.{List, [], _∷_, _++_}
-use mathlib.Core.Bool.{Bool, true, false, not, cond}
+use mathlib.Core.List.{List}
+use mathlib.Core.Bool.{Bool, true, false, cond}
 use Prim.Native.Nat.{ℕ, _+_, _<_}
 use lib.Dec.{eqb, leb}
-use Rattle.std.specs.Options.{isSome}
 use Rattle.std.specs.declared.option.Option.{Option}
 use Rattle.std.specs.declared.option.Option.the-variants.{Some, None}
-use Rattle.std.proofs.shelf.Tests.{leb-false, not-true, not-false, not-from-true}
+use Rattle.std.proofs.shelf.Tests.{leb-false, not-true, not-false}
 use Rattle.std.specs.declared.result.Result.{Result}
 use Rattle.std.specs.declared.result.Result.the-variants.{Ok}
 use Rattle.fault.specs.declared.fault.Fault.{Fault}
 use Rattle.fault.specs.declared.cause.Cause.{Cause}
-use Rattle.fault.specs.declared.cause.Cause.the-variants.{NoParagraph, BarredByte, OverLimit, NoFolding}
+use Rattle.fault.specs.declared.cause.Cause.the-variants.{BarredByte, OverLimit, NoFolding}
 use Rattle.sink.specs.Sink.{Sink}
-use Rattle.folding.specs.Text.{space, settled-behind}
-use Rattle.folding.specs.Folding.{folding}
+use Rattle.folding.specs.Text.{space}
 use Rattle.folding.specs.WireLine.{wire-line, wire-lines}
 use Rattle.folding.specs.Held.{full}
 use Rattle.folding.specs.Incremental.{ending}

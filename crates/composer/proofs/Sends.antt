@@ -1,9 +1,8 @@
 -- Bytes sent down after others.
-use mathlib.Core.Path.{_≡_, refl, sym, ap, ap₂, subst, _∙_}
-use mathlib.Core.List.{List, [], _∷_, _++_, append-nil, append-assoc}
-use mathlib.Core.Bool.{Bool, true, false}
+use mathlib.Core.Path.{_≡_, refl, sym, ap, subst, _∙_}
+use mathlib.Core.List.{List, [], _∷_, _++_}
+use mathlib.Core.Bool.{false}
 use Prim.Native.Nat.{ℕ}
-use lib.ListN.{length, drop}
 use Rattle.std.specs.declared.option.Option.{Option}
 use Rattle.std.specs.declared.option.Option.the-variants.{Some, None}
 use Rattle.std.specs.declared.result.Result.{Result}
@@ -13,7 +12,6 @@ use Rattle.fault.specs.Answers.{answer, raised, or-else}
 use Rattle.orders.specs.Meaning.{Kind, Meaning, bars}
 use Rattle.orders.specs.Steps.{after, verdict, reached}
 use Rattle.orders.specs.Lists.{sent, sent-on, sent-fault}
-use Rattle.orders.specs.Behind.{Behind}
 use Rattle.orders.proofs.Answering.{answer-err, answer-ok}
 use Rattle.orders.proofs.Appending.{sent-append, sent-fault-append}
 use Rattle.orders.proofs.Fills.{fill-prefix, raised-none}

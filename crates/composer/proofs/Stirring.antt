@@ -1,6 +1,6 @@
 -- An order that sends nothing and is accepted leaves a paragraph open.
 use mathlib.Core.Path.{_≡_, refl, sym, ap, _∙_}
-use mathlib.Core.List.{List, [], _∷_, _++_}
+use mathlib.Core.List.{List, []}
 use mathlib.Core.Bool.{Bool, true, false, not}
 use Prim.Native.Nat.{ℕ}
 use native.Mathlib.Omega.{arith}
@@ -11,8 +11,8 @@ use Rattle.std.specs.declared.option.Option.{Option}
 use Rattle.std.specs.declared.option.Option.the-variants.{Some, None}
 use Rattle.fault.specs.declared.cause.Cause.{Cause}
 use Rattle.fault.specs.declared.cause.Cause.the-variants.{WrongNumber, GivenUp}
-use Rattle.taker.specs.Paragraph.{Order, opens, texts, ends, gives-up, finishes, closes}
-use Rattle.layer.specs.Layer.{Stirs, sends, stops}
+use Rattle.taker.specs.Paragraph.{Order, opens, texts, ends, gives-up, finishes}
+use Rattle.layer.specs.Layer.{Stirs, sends}
 use Rattle.folding.specs.Text.{Text, settled-behind}
 use Rattle.folding.specs.WireLine.{bare-line, wire-line, crlf}
 use Rattle.folding.proofs.Constructors.{some-none}

@@ -1,7 +1,7 @@
 -- The turns of taking a text byte: lines go down until what is held takes the byte.
-use mathlib.Core.Path.{_≡_, refl, sym, ap, subst, _∙_}
+use mathlib.Core.Path.{_≡_, refl, sym, ap, _∙_}
 use mathlib.Core.List.{List, [], _∷_, _++_, append-nil, append-assoc}
-use mathlib.Core.Bool.{Bool, true, false}
+use mathlib.Core.Bool.{false}
 use Prim.Native.Nat.{ℕ, _+_, _≤_, _<_}
 use native.Mathlib.Nat.{add-zero}
 use native.Mathlib.Omega.{arith}
@@ -17,8 +17,8 @@ use Rattle.fault.specs.declared.fault.Fault.{Fault}
 use Rattle.sink.specs.Sink.{Sink}
 use Rattle.folding.specs.Text.{Text, space}
 use Rattle.folding.specs.WireLine.{width, wire-line, wire-lines}
-use Rattle.folding.specs.Folded.{Folded, one-line, after-lines}
-use Rattle.folding.specs.Folding.{from-start, folding}
+use Rattle.folding.specs.Folded.{Folded, after-lines}
+use Rattle.folding.specs.Folding.{from-start}
 use Rattle.folding.specs.Held.{Held, Valid, held-with, full}
 use Rattle.folding.specs.Incremental.{held-piece, held-drop, held-join, held-space, so-far, send}
 use Rattle.folding.proofs.Exceptions.{no-exception}
@@ -28,7 +28,7 @@ use Rattle.folding.proofs.Tracking.{sent}
 use Rattle.folding.proofs.Turns as turns
 use Rattle.folding.proofs.WireLines.{wire-lines-append}
 use Rattle.composer.specs.declared.held_line.HeldLine.{HeldLine}
-use Rattle.composer.specs.Machine.{flowed-of, finished-lines, behind-lines}
+use Rattle.composer.specs.Machine.{flowed-of, behind-lines}
 use Rattle.composer.specs.Sending.{Sends}
 use Rattle.composer.specs.State.{held-of, held-text}
 use Rattle.composer.specs.Taking.{Takes, text-with, lines-with, counted}

@@ -1,28 +1,27 @@
 -- The text of a paragraph, byte after byte: what is held and what was sent follow from the folding of the text so far.
 use mathlib.Core.Path.{_≡_, refl, sym, ap, subst, _∙_}
 use mathlib.Core.List.{List, [], _∷_, _++_, append-assoc, append-nil}
-use mathlib.Core.Bool.{Bool, true, false, not}
+use mathlib.Core.Bool.{true, false, not}
 use Prim.Native.Nat.{ℕ, _+_, _≤_, _<_}
 use native.Mathlib.Omega.{arith}
 use lib.Dec.{leb}
 use lib.ListN.{length, drop, replicate, length-append}
-use lib.Seq.{drop-drop, drop-append-le}
+use lib.Seq.{drop-drop}
 use Rattle.std.specs.Options.{Cases, isSome}
 use Rattle.std.specs.declared.option.Option.{Option}
 use Rattle.std.specs.declared.option.Option.the-variants.{Some, None}
 use Rattle.std.specs.shelf.Lists.{All, joined}
 use Rattle.std.proofs.shelf.Tests.{lt-leb}
-use Rattle.std.proofs.shelf.Results.{cases-at-some}
 use Rattle.fault.specs.declared.cause.Cause.{Cause}
 use Rattle.fault.specs.declared.cause.Cause.the-variants.{BarredByte, OverLimit, NoFolding}
-use Rattle.taker.specs.Paragraph.{Order, texts, text-orders}
-use Rattle.layer.specs.Layer.{sends, stops}
+use Rattle.taker.specs.Paragraph.{texts, text-orders}
+use Rattle.layer.specs.Layer.{sends}
 use Rattle.folding.specs.Text.{Text, space, trimmed, settled, settled-behind}
 use Rattle.folding.specs.WireLine.{wire-lines}
-use Rattle.folding.specs.Folded.{Folded, one-line, after-lines, pieces}
+use Rattle.folding.specs.Folded.{Folded, after-lines}
 use Rattle.folding.specs.Folding.{folding}
 use Rattle.folding.specs.Laws.{Folds-on}
-use Rattle.folding.specs.Incremental.{Progress, start, put-all, so-far, ended}
+use Rattle.folding.specs.Incremental.{Progress, start, put-all, so-far}
 use Rattle.folding.specs.Tracking.{Tracks}
 use Rattle.folding.proofs.Constructors.{same-some, some-none}
 use Rattle.folding.proofs.Spaces.{trimmed-rest}

@@ -17,7 +17,7 @@ use Rattle.sink.specs.Sink.{Sink}
 use Rattle.sink.specs.Law.{Lawful as SinkLawful}
 use Rattle.taker.specs.Paragraph.{Order, opens, texts, ends, gives-up, finishes}
 use Rattle.taker.specs.Law.{more, Lawful}
-use Rattle.layer.specs.Layer.{Move, sends, stops, layer-means}
+use Rattle.layer.specs.Layer.{sends, stops, layer-means}
 use Rattle.layer.proofs.Sound.{layer-sound}
 use Rattle.composer.specs.Machine.{Within, Composing, limit, barred, refuse-if, lacks-folding, text-refusal, refusal, bytes-of, next-state, unless, composer}
 use Rattle.composer.specs.ParagraphLayer.{Numbers, layer-numbered, Deaf-at, Hearing-at, layer-uniform}

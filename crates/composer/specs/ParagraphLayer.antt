@@ -21,7 +21,7 @@ use Rattle.sink.specs.Sink.{Sink, down}
 use Rattle.sink.specs.Sink.{Order as SinkOrder}
 use Rattle.taker.specs.Paragraph.{Order, opens, texts, closes, counts, paragraphs}
 use Rattle.taker.specs.Law.{more, opened, Numbered, Deaf, Hearing}
-use Rattle.layer.specs.Layer.{Machine, Move, sends, stops, run, run-on, state-on, state-after, layer-adds, layer-says, layer-means}
+use Rattle.layer.specs.Layer.{Machine, Move, sends, stops, run, run-on, state-on, state-after, layer-means}
 use Rattle.layer.proofs.Steps.{layer-verdict, own-verdict, closed-verdict, shut-verdict, mild-raise, own-stays, closed-stays, shut-stays}
 
 -- its states count the paragraphs

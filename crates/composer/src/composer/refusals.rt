@@ -63,4 +63,16 @@ impl<S> Composer<S> {
         }
         None
     }
+
+    // An open paragraph is not ended by a finish.
+    pub(crate) fn finish_refusal(&self) -> Option<Cause>
+        ensures { λ r. ⌜ r ≡ finish-refusal (within-of (now (self .entry) .paragraph)) ⌝ }
+    {
+        let left = self.paragraph.is_open();
+        if left {
+            Some(Cause::ParagraphLeft)
+        } else {
+            None
+        }
+    }
 }

@@ -89,8 +89,8 @@ pub impl<S: ByteSink> ParagraphTaker for Composer<S> as ComposerTaker {
         if let Some(f) = self.over() {
             return Err(f);
         }
-        if self.paragraph.is_open() {
-            return Err(self.refuse(Cause::ParagraphLeft));
+        if let Some(cause) = self.finish_refusal() {
+            return Err(self.refuse(cause));
         }
         match send_close(&mut self.below) {
             Ok(n) => {

@@ -3,7 +3,7 @@ ghost use mathlib.Core.Path.{_≡_};
 ghost use mathlib.Core.List.{[], _∷_, _++_};
 ghost use mathlib.Core.Bool.{false, not};
 ghost use Prim.Native.Nat.{_+_, _<_, _≤_};
-ghost use lib.ListN.{take, drop, length, getD};
+ghost use lib.ListN.{getD};
 ghost use Rattle.std.specs.Options.{isSome};
 ghost use Rattle.folding.specs.Text.{settled-behind};
 ghost use Rattle.folding.specs.Folding.{folding};

@@ -1,6 +1,5 @@
-use mathlib.Core.Path.{_≡_, sym, ap, _∙_}
-use mathlib.Core.List.{List, _++_, append-assoc}
-use Prim.Native.Nat.{ℕ}
+use mathlib.Core.Path.{_≡_, ap, _∙_}
+use mathlib.Core.List.{_++_, append-assoc}
 use lib.ListN.{replicate}
 use Rattle.std.proofs.shelf.Results.{err-from-errBy}
 use Rattle.folding.specs.Text.{Text, space}

@@ -1,8 +1,7 @@
 use mathlib.Core.Path.{_∙_}
 use mathlib.Core.List.{[], _∷_, _++_}
-use Prim.Native.Nat.{_<_}
 use native.Mathlib.Omega.{arith}
-use lib.ListN.{length, replicate}
+use lib.ListN.{replicate}
 use Rattle.folding.specs.Text.{space}
 use Rattle.composer.specs.State.{held-of}
 use Rattle.composer.proofs.Buffers.{line-length, line-first}

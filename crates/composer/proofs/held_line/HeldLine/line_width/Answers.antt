@@ -1,9 +1,7 @@
-use mathlib.Core.Path.{_∙_, sym, ap}
-use Prim.Native.Nat.{ℕ, _+_, _<_}
+use Prim.Native.Nat.{_<_}
 use native.Mathlib.Omega.{arith}
-use lib.ListN.{length, getD}
+use lib.ListN.{getD}
 use Rattle.composer.specs.State.{held-of}
-use Rattle.folding.proofs.Widths.{width-le}
 use Rattle.composer.proofs.Buffers.{line-length, line-first}
 use Rattle.composer.proofs.Firsts.{line-width, width-empty}
 use Rattle.composer.proofs.held_line.HeldLine.line_width.Needs as need

@@ -1,4 +1,3 @@
-use mathlib.Core.Path.{_∙_}
 use Rattle.taker.specs.Paragraph.{gives-up}
 use Rattle.composer.specs.Composers.{state-of}
 use Rattle.composer.proofs.Outcomes.{came-over, came-refused, up-cause}
