@@ -1,6 +1,6 @@
 """Holds the wire bytes of `flowed carry` to Python's own dot-stuffing, on random bodies."""
 import random
-import re
+import smtplib
 import subprocess
 import sys
 
@@ -9,8 +9,8 @@ SEED = int(sys.argv[2]) if len(sys.argv) > 2 else 5321
 
 
 def peer(body):
-    """As smtplib sends a message's data: each leading period doubled, and the end mark."""
-    return re.sub(rb"(?m)^\.", b"..", body) + b".\r\n"
+    """Leading periods doubled by smtplib itself, and the end mark."""
+    return smtplib._quote_periods(body) + b".\r\n"
 
 
 def body(rng):
