@@ -1,5 +1,5 @@
 -- Bytes that go through one after another, by what is still to come.
-use Rattle.std.proofs.Common.{◌≡◌, ℕ, ◌+◌, List, [], ◌∷◌, Some, None, Option, sym, refl, ap, ◌∙◌, arith}
+use Rattle.std.proofs.Common.{◌≡◌, ℕ, ◌+◌, List, [], ◌∷◌, Some, None, sym, ap, ◌∙◌, arith}
 use Rattle.fault.specs.declared.fault.Fault.{Fault}
 use Rattle.undo.specs.Undoing.{Undoing, fed}
 use Rattle.orders.specs.Steps.{after, answered}

@@ -1,23 +1,23 @@
 -- What a fresh sink accepted and closed on comes back, and the comparison finds nothing.
-use Rattle.std.proofs.Common.{◌≡◌, ℕ, Bool, true, false, List, [], ◌∷◌, ◌++◌, length, Some, None, Ok, Err, Option, Result, sym, refl, ap, ◌∙◌, subst, ap₂, arith}
+use Rattle.std.proofs.Common.{◌≡◌, ℕ, true, false, List, [], ◌∷◌, None, Ok, Option, Result, sym, refl, ap, ◌∙◌, subst, arith}
 use Rattle.fault.specs.declared.fault.Fault.{Fault}
-use Rattle.fault.specs.Answers.{or_else, answer}
+use Rattle.fault.specs.Answers.{answer}
 use Rattle.orders.specs.declared.phase.Phase.TheVariants.{Running}
-use Rattle.orders.specs.Steps.{after, verdict, answered, shown, finished}
-use Rattle.orders.specs.Lists.{sent, sent_on, sent_fault, ran, reach}
+use Rattle.orders.specs.Steps.{after, verdict, shown, finished}
+use Rattle.orders.specs.Lists.{sent, sent_on, sent_fault, ran}
 use Rattle.orders.specs.Permits.{Filled, fill}
 use Rattle.orders.specs.Meaning.{Added, bars, ending}
 use Rattle.orders.proofs.Appending.{sent_fault_append}
 use Rattle.orders.proofs.Fills.{both_none}
 use Rattle.orders.proofs.Sending.{ran_reach}
-use Rattle.undo.specs.Undoing.{Undoing, Undone, fed, next, taken_by, undone, whole}
+use Rattle.undo.specs.Undoing.{Undoing, next, taken_by, undone}
 use Rattle.undo.proofs.Compose.{Back, back, First, nothing, a_byte, first}
 use Rattle.sink.specs.Sink.{Sink, put, close, down}
 use Rattle.sink.specs.Law.{Accepts, Lawful}
 use Rattle.sink.proofs.Going.{down_going, down_close}
 use Rattle.ends.specs.Lawful.{adds_whole, whole_matches, whole_ends}
 use Rattle.ends.specs.Ends.{compare_means}
-use Rattle.carry.specs.Back.{Passed, Stopped, passed, passed_on, stop_at, sink_at, at_sink, returned, answer_at, closed_by}
+use Rattle.carry.specs.Back.{Passed, passed, passed_on, stop_at, sink_at, at_sink, returned, answer_at, closed_by}
 use Rattle.carry.proofs.Sending.{then_closed}
 
 -- the bytes went through, and the undoing may stop behind them

@@ -1,5 +1,5 @@
 -- A text and a close, by the feed and the close.
-use Rattle.std.proofs.Common.{◌≡◌, ℕ, Bool, true, false, List, [], ◌∷◌, Some, None, Option, sym, refl, ap, ◌∙◌, arith}
+use Rattle.std.proofs.Common.{◌≡◌, ℕ, true, false, List, [], ◌∷◌, Some, None, Option, refl, ap, ◌∙◌}
 use Rattle.fault.specs.declared.fault.Fault.{Fault}
 use Rattle.fault.specs.Answers.{or_else}
 use Rattle.orders.specs.Permits.{Filled}
@@ -7,7 +7,7 @@ use Rattle.orders.specs.Steps.{after, verdict}
 use Rattle.orders.specs.Lists.{sent, sent_on, sent_fault, ran, reach}
 use Rattle.orders.proofs.Appending.{sent_append, sent_fault_append}
 use Rattle.orders.proofs.Sending.{ran_reach}
-use Rattle.sink.specs.Sink.{Order, Sink, close, down}
+use Rattle.sink.specs.Sink.{Sink, close, down}
 use Rattle.sink.proofs.Going.{down_going, down_close}
 
 alone : (v : Option Fault) → or_else v None ≡ v

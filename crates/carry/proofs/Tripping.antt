@@ -1,16 +1,14 @@
 -- A new dot stage over memory: what it sends for lines, and that it comes back.
-use Rattle.std.proofs.Common.{◌≡◌, ℕ, ◌≤◌, Bool, true, false, List, [], ◌∷◌, ◌++◌, length, is_ok, Some, None, Ok, Err, vec_len, Option, Result, Vec, sym, refl, ap, ◌∙◌, subst, arith}
+use Rattle.std.proofs.Common.{◌≡◌, ℕ, ◌≤◌, true, List, [], length, None, Ok, vec_len, Vec, sym, refl, ap, ◌∙◌, subst, arith}
 use Rattle.std.specs.declared.alloc.Global.{Global}
 use Rattle.std.specs.List.{AllByRecursion as All}
-use Rattle.fault.specs.declared.fault.Fault.{Fault}
-use Rattle.fault.specs.Answers.{told, answer, raised}
 use Rattle.orders.specs.declared.phase.Phase.TheVariants.{Running}
 use Rattle.orders.specs.Meaning.{Added, bars, ending}
 use Rattle.orders.specs.Permits.{Filled, fill, lift}
 use Rattle.orders.specs.Steps.{shown, finished}
 use Rattle.orders.specs.Lists.{reach}
 use Rattle.orders.proofs.Fills.{fill_raised}
-use Rattle.sink.specs.Sink.{Sink, down}
+use Rattle.sink.specs.Sink.{down}
 use Rattle.sink.specs.Law.{Lawful}
 use Rattle.layer.specs.Layer.{lifted}
 use Rattle.ends.specs.Ends.{memory_means, compare_means, fits}
@@ -19,8 +17,7 @@ use Rattle.dot.specs.declared.line.LineState.TheVariants.{Start}
 use Rattle.dot.specs.Stuffing.{Clean, text_of, stuffed}
 use Rattle.dot.specs.Law.{dot_lawful}
 use Rattle.dot.proofs.ByLines.{dot_stuffs}
-use Rattle.carry.specs.declared.stop.Stop.{Stop}
-use Rattle.carry.specs.Back.{passed, returned, told_back}
+use Rattle.carry.specs.Back.{passed, returned}
 use Rattle.carry.specs.Trip.{new_stage}
 use Rattle.sink.proofs.Accepting.{accepted}
 use Rattle.carry.proofs.Returning.{comes_back}

@@ -5,6 +5,7 @@ use Rattle.fault.specs.declared.composer.ComposerFault.{ComposerFault}
 use Rattle.fault.specs.Kinds.{composer_fault}
 use Rattle.fault.specs.Answers.{told, answer}
 use Rattle.orders.specs.Steps.{after, verdict, answered, shown}
+use Rattle.sink.specs.Sink.{Sink}
 use Rattle.taker.specs.Mail.{Paragraph}
 use Rattle.taker.specs.Paragraph.{Taker, finishes}
 use Rattle.history.specs.History.{Step}
@@ -12,7 +13,7 @@ use Rattle.history.specs.Settled.{settled_paragraphs}
 use Rattle.plain_text.specs.Handing.{HandedAll, by_fault}
 use Rattle.plain_text.proofs.Settling.{handed_settled}
 use Rattle.compose_text.specs.declared.composed.Outcome.{Outcome}
-use Rattle.compose_text.specs.Composed.{finish_step, Written, FootTold}
+use Rattle.compose_text.specs.Composed.{finish_step, Written, FootTold, ComposedSo, ComposedAs}
 
 -- a finish lists no paragraph
 finish_settled : (f : Option (Result ℕ ComposerFault)) (h : List Step) → settled_paragraphs (finish_step f ++ h) ≡ settled_paragraphs h
@@ -36,3 +37,7 @@ accepted n x (Some f) e = let z : ◌≡◌ {A = ℕ} 0 1 = cc in absurd (omega 
 pub foot_told : (r : Result ℕ ComposerFault) (m n : Taker ℕ) → told composer_fault r ≡ answered m finishes → n ≡ after m finishes → FootTold (Some r) n.foot
 foot_told (Ok x) m n e c = accepted x (shown (after m finishes).foot) (verdict m finishes) e ∙ ap (λ (l : Taker ℕ). shown l.foot) (sym c)
 foot_told (Err f) m n e c = tt
+
+-- the steps that composed a text are some steps
+pub composed_so : (w : ℕ) (m : Sink) (ps : List Paragraph) (o : Outcome) (wire : List ℕ) → ComposedAs w m ps o wire → ComposedSo w m wire
+composed_so w m ps o wire c = record { steps = c.steps; left = c.left; reached = c.reached; foot = c.foot }

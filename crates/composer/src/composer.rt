@@ -12,7 +12,7 @@ use orders::phase::Phase;
 use sink::byte_sink::ByteSink;
 
 mod refusals;
-pub mod taker;
+pub mod taking;
 
 #[derive(Drop)]
 pub struct Composer<S> {

@@ -1,8 +1,7 @@
 -- Every history of a composer is as the rules state for its orders.
-use Rattle.std.proofs.Common.{◌≡◌, ℕ, ◌≤◌, Bool, true, false, ◌&&◌, leb, List, [], ◌∷◌, Option, sym, refl, ap, ◌∙◌, subst, arith, leb-true}
+use Rattle.std.proofs.Common.{◌≡◌, ℕ, Bool, true, false, ◌&&◌, leb, List, [], ◌∷◌, Option, sym, refl, ap, ◌∙◌, subst, arith, leb-true}
 use Rattle.fault.specs.declared.fault.Fault.{Fault}
-use Rattle.orders.specs.declared.phase.Phase.TheVariants.{Running}
-use Rattle.orders.specs.Steps.{after, verdict, answered}
+use Rattle.orders.specs.Steps.{after}
 use Rattle.sink.specs.Sink.{Sink}
 use Rattle.taker.specs.Paragraph.{Order, Taker}
 use Rattle.layer.specs.Layer.{layer_means}
@@ -12,7 +11,7 @@ use Rattle.history.specs.Stated.{offered, stated, counted, reply_on, tally}
 use Rattle.history.proofs.Stating.{as_stated}
 use Rattle.composer.specs.Machine.{composer, start}
 use Rattle.composer.specs.Composers.{good_start, born, new_means}
-use Rattle.conversation.specs.Rules.{SoFar, at_first, answer_for, verdict_for, next_for, follows, answers_for, bytes_taken, start_for, AsRuled}
+use Rattle.conversation.specs.Rules.{SoFar, at_first, answer_for, verdict_for, follows, answers_for, bytes_taken, start_for, AsRuled}
 use Rattle.conversation.proofs.Ruling.{Meets, going, ended, met, foot_met, standing_met}
 
 middle : (a b c : Bool) → a && b && c ≡ true → b ≡ true

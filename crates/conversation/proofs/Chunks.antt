@@ -1,5 +1,5 @@
 -- Bytes read in chunks are read as a whole.
-use Rattle.std.proofs.Common.{◌≡◌, ℕ, ◌+◌, List, [], ◌∷◌, ◌++◌, length, Some, None, Option, sym, refl, ap, ◌∙◌, subst, ap₂, append_assoc, arith}
+use Rattle.std.proofs.Common.{◌≡◌, ℕ, List, [], ◌∷◌, ◌++◌, length, Some, None, Option, sym, refl, ap, ◌∙◌, ap₂, append_assoc, arith}
 use Rattle.fault.specs.declared.fault.Fault.{Fault}
 use Rattle.taker.specs.Paragraph.{Order}
 use Rattle.folding.proofs.Constructors.{some_none}

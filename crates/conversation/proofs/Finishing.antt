@@ -1,7 +1,6 @@
 -- A run that has finished: its end took what comes back as the wire bytes of its settled paragraphs.
 use Rattle.std.proofs.Common.{◌≡◌, ℕ, true, List, [], ◌∷◌, ◌++◌, map, length, Some, None, Option, sym, refl, ap, ◌∙◌, subst, append-nil, arith}
 use Rattle.std.specs.List.{flat_map, AllByRecursion as All}
-use Rattle.fault.specs.declared.fault.Fault.{Fault}
 use Rattle.fault.specs.Answers.{raised}
 use Rattle.orders.specs.Meaning.{Added}
 use Rattle.orders.specs.Lists.{addition, reach}
@@ -25,8 +24,8 @@ use Rattle.history.specs.Orders.{orders}
 use Rattle.history.specs.Settled.{settle, Track, has_finished}
 use Rattle.history.specs.Settled.{settled_paragraphs as settled_in}
 use Rattle.composer.specs.Composers.{new_means}
-use Rattle.conversation.specs.Mail.{Mail, pieces_of, lines_of, ended_bytes, bytes_for}
-use Rattle.conversation.specs.Rules.{Course, goes, finished, shut, SoFar, foot_by, fault_by, reached_by}
+use Rattle.conversation.specs.Mail.{pieces_of, ended_bytes, bytes_for}
+use Rattle.conversation.specs.Rules.{finished, SoFar, foot_by, reached_by}
 use Rattle.conversation.proofs.MailMoves.{EndedOk, MailOk}
 use Rattle.conversation.proofs.Ruling.{Meets, going, over, ended, went_with, foot_is, fault_is}
 use Rattle.conversation.proofs.AsRuled.{reached_met}

@@ -1,21 +1,21 @@
 -- Paragraphs handed on to a taker that accepts them: the numbers that its opens answer are those that their ends name.
-use Rattle.std.proofs.Common.{◌≡◌, ℕ, ◌+◌, Bool, false, List, [], ◌∷◌, ◌++◌, Some, None, Option, sym, refl, ap, ◌∙◌, ap₂}
+use Rattle.std.proofs.Common.{◌≡◌, ℕ, ◌+◌, Bool, false, List, [], ◌∷◌, ◌++◌, None, Option, sym, refl, ap, ◌∙◌, ap₂}
 use Rattle.fault.specs.declared.fault.Fault.{Fault}
 use Rattle.fault.specs.Answers.{or_else}
-use Rattle.orders.specs.Meaning.{Added, Adds, bars, ending, later}
-use Rattle.orders.specs.Permits.{Filled, fill}
+use Rattle.orders.specs.Meaning.{Adds, bars, ending, later}
+use Rattle.orders.specs.Permits.{fill}
 use Rattle.orders.specs.Steps.{after, verdict, settled, reached, adds_on, says_on, if_closing}
 use Rattle.orders.specs.Lists.{each, sent, sent_on, sent_fault}
 use Rattle.orders.proofs.Fills.{both_none}
 use Rattle.orders.proofs.Appending.{sent_append, sent_fault_append}
 use Rattle.taker.specs.Paragraph.{Order, opens, texts, ends, finishes, closes, Taker}
-use Rattle.taker.specs.Law.{more, opened as opened_by, Numbered}
+use Rattle.taker.specs.Law.{more, Numbered}
 use Rattle.taker.specs.Mail.{Paragraph}
 use Rattle.taker.specs.Events.{Event, opened, text, ended}
 use Rattle.reading.specs.Events.{told}
 use Rattle.reading.specs.Events.{texts as text_events}
 use Rattle.history.specs.Settled.{handed_on}
-use Rattle.reader.specs.Handing.{Handing, hand, orders_for, more_unless}
+use Rattle.reader.specs.Handing.{hand, orders_for, more_unless}
 use Rattle.reader.proofs.Handing.{hand_sent, hand_sent_fault}
 
 -- the orders of events, where n paragraphs were opened before, and k is the number of the open one

@@ -1,29 +1,28 @@
 -- A composer moves as the rules state for the mail that it accepted.
-use Rattle.std.proofs.Common.{◌≡◌, ℕ, ◌+◌, ◌<◌, ◌≤◌, min, Bool, true, false, not, eqb, ltb, leb, List, [], ◌∷◌, ◌++◌, length, is_some, Some, None, Option, sym, refl, ap, ◌∙◌, subst, ap₂, append_assoc, append-nil, arith, length-append, ltb-false, eqb-true, leb-false}
-use Rattle.std.specs.List.{flat_map, AllByRecursion as All}
+use Rattle.std.proofs.Common.{◌≡◌, ℕ, ◌+◌, ◌<◌, ◌≤◌, Bool, true, false, not, eqb, ltb, leb, List, [], ◌∷◌, ◌++◌, length, is_some, Some, None, Option, sym, refl, ap, ◌∙◌, ap₂, append_assoc, append-nil, arith, length-append, ltb-false, eqb-true, leb-false}
+use Rattle.std.specs.List.{AllByRecursion as All}
 use Rattle.std.proofs.ByRecursion.{All-push}
 use Rattle.reading.proofs.Joins.{joined_append}
 use Rattle.sink.specs.Sink.{Sink}
 use Rattle.fault.specs.declared.cause.Cause.{Cause}
 use Rattle.fault.specs.declared.cause.Cause.TheVariants.{TooDeep, BarredByte, OverLimit, NoFolding, WrongNumber, GivenUp}
-use Rattle.fault.specs.Faults.{most}
 use Rattle.orders.specs.Steps.{place_on}
 use Rattle.taker.specs.Paragraph.{Order, opens, texts, ends, gives_up, finishes, closes, counts, barred, deepest}
 use Rattle.taker.specs.Mail.{Paragraph}
-use Rattle.layer.specs.Layer.{Move, sends, stops}
+use Rattle.layer.specs.Layer.{sends, stops}
 use Rattle.folding.specs.Text.{Text, trimmed, settled, settled_behind}
 use Rattle.folding.specs.WireLine.{wire_line, wire_lines}
-use Rattle.folding.specs.Folded.{Folded, one_line, pieces}
+use Rattle.folding.specs.Folded.{Folded, one_line}
 use Rattle.folding.specs.Folding.{folding}
-use Rattle.folding.proofs.Constructors.{same_some, some_none}
+use Rattle.folding.proofs.Constructors.{some_none}
 use Rattle.folding.proofs.Agreeing.{settled_none}
 use Rattle.folding.proofs.WireLines.{wire_lines_append}
 use Rattle.composer.specs.Machine.{Within, Composing, limit, refuse_if, lacks_folding, flowed_of, finished_lines, behind_lines, refusal, bytes_of, next_state, moves, unless, tells}
 use Rattle.composer.specs.Mails.{Writable, text_length}
-use Rattle.composer.proofs.TextSteps.{text_state, open_at, lacks_folding_is, onward, text_step, end_folds}
+use Rattle.composer.proofs.TextSteps.{open_at, lacks_folding_is, onward, text_step, end_folds}
 use Rattle.composer.proofs.MailSteps.{between_at, open_step, end_step}
-use Rattle.conversation.specs.Mail.{Mail, pieces_of, lines_of, lines_so_far, ended_bytes, open_bytes, bytes_for, place_for, number, mail_with}
-use Rattle.conversation.specs.Rules.{own_cause, value_for, open_lines}
+use Rattle.conversation.specs.Mail.{Mail, pieces_of, lines_of, lines_so_far, ended_bytes, bytes_for, place_for, mail_with}
+use Rattle.conversation.specs.Rules.{own_cause, value_for}
 
 abbrev pub within_by : Paragraph → List Text → Within
 within_by p ls = record { depth = p.depth; held = behind_lines ls p.text; lines = length ls; bytes = length p.text }

@@ -1,9 +1,9 @@
 -- The promise holds.
-use Rattle.std.proofs.Common.{◌≡◌, ℕ, Bool, true, List, [], ◌∷◌, length, Ok, sym, refl, ap, ◌∙◌, subst}
+use Rattle.std.proofs.Common.{◌≡◌, ℕ, Bool, true, List, Ok, sym, ap, ◌∙◌, subst}
 use Rattle.fault.specs.declared.fault.Fault.{Fault}
 use Rattle.orders.specs.declared.phase.Phase.{Phase}
 use Rattle.orders.specs.Alike.{Alike}
-use Rattle.undo.specs.Undoing.{Undoing, undone, whole}
+use Rattle.undo.specs.Undoing.{Undoing}
 use Rattle.sink.specs.Sink.{Sink}
 use Rattle.sink.specs.Law.{Lawful as SinkLawful}
 use Rattle.sink.specs.Same.{Matched}
@@ -14,17 +14,16 @@ use Rattle.layer.specs.Layer.{layer_means}
 use Rattle.layer.proofs.Alike.{layer_alike}
 use Rattle.reading.specs.Events.{told}
 use Rattle.reading.specs.Machine.{start as line_start}
-use Rattle.reading.specs.Runs.{Run, run}
+use Rattle.reading.specs.Runs.{run}
 use Rattle.reading.proofs.SentBack.{sent_reads_back}
 use Rattle.history.specs.History.{Step, Reached}
-use Rattle.history.specs.Orders.{orders}
-use Rattle.history.specs.Settled.{settled_paragraphs, has_finished}
+use Rattle.history.specs.Settled.{settled_paragraphs}
 use Rattle.history.proofs.Chopping.{chopping_harmless}
 use Rattle.composer.specs.Machine.{composer, start}
 use Rattle.composer.specs.Composers.{new_means, born, good_start}
 use Rattle.reader.specs.Reading.{Reading}
 use Rattle.conversation.specs.Mail.{ended_bytes}
-use Rattle.conversation.specs.Promise.{Agree, ReadsBack, Holds}
+use Rattle.conversation.specs.Promise.{ReadsBack, Holds}
 use Rattle.conversation.proofs.AsRuled.{as_ruled}
 use Rattle.conversation.proofs.Finishing.{Finished, as_sent, sendable, same_bytes, same_paragraphs, has_run, equal_bytes, equal_paragraphs}
 use Rattle.conversation.proofs.ReadBack.{read_back}

@@ -1,10 +1,10 @@
 -- What the end took of a finished run is read back as its settled paragraphs, in whatever chunks.
-use Rattle.std.proofs.Common.{◌≡◌, ℕ, List, [], ◌∷◌, ◌++◌, length, Some, None, Ok, Option, Result, sym, refl, ap, ◌∙◌, subst, ap₂, append-nil, arith}
+use Rattle.std.proofs.Common.{◌≡◌, ℕ, List, [], ◌∷◌, ◌++◌, length, None, Ok, Option, Result, sym, ap, ◌∙◌, ap₂}
 use Rattle.fault.specs.declared.fault.Fault.{Fault}
 use Rattle.fault.specs.Answers.{answer, raised}
 use Rattle.orders.specs.declared.phase.Phase.TheVariants.{Closed}
 use Rattle.orders.specs.Steps.{after, verdict, value, shown}
-use Rattle.orders.specs.Lists.{sent, sent_fault}
+use Rattle.orders.specs.Lists.{sent_fault}
 use Rattle.undo.specs.Undoing.{Undoing, Undone, undone, whole}
 use Rattle.taker.specs.Paragraph.{Order, Taker}
 use Rattle.taker.specs.Paragraph.{finishes as finish_order}
@@ -12,13 +12,13 @@ use Rattle.taker.specs.Law.{Numbered}
 use Rattle.taker.specs.Mail.{Paragraph}
 use Rattle.reading.specs.Events.{told}
 use Rattle.reading.specs.Machine.{start}
-use Rattle.reading.specs.Runs.{Run, run}
+use Rattle.reading.specs.Runs.{run}
 use Rattle.history.specs.Settled.{handed_on}
 use Rattle.reader.specs.Handing.{hand, orders_for}
 use Rattle.reader.specs.Reading.{Reading, Read, new_reading, bytes, with_taker, settled, if_stopped, finish_read, finish_answered}
-use Rattle.conversation.specs.Reads.{StepRead, fed, finished, stopped_orders, chunk_orders, finish_orders, Reads, feeds, finishes, OnlyFeeds, fed_bytes}
+use Rattle.conversation.specs.Reads.{StepRead, finished, stopped_orders, chunk_orders, finish_orders, Reads, finishes, OnlyFeeds, fed_bytes}
 use Rattle.conversation.specs.Promise.{ReadBack}
-use Rattle.conversation.proofs.HandingOn.{Takes, takes}
+use Rattle.conversation.proofs.HandingOn.{takes}
 use Rattle.conversation.proofs.ReadRuns.{at, ran}
 use Rattle.conversation.proofs.Chunks.{cut}
 

@@ -1,17 +1,17 @@
 -- What a reader comes to over bytes that nobody refuses.
-use Rattle.std.proofs.Common.{◌≡◌, ℕ, ◌+◌, List, [], ◌∷◌, ◌++◌, length, Some, None, Ok, Err, Option, Result, sym, refl, ap, ◌∙◌, subst, ap₂, append_assoc, append-nil, arith}
+use Rattle.std.proofs.Common.{◌≡◌, ℕ, List, [], ◌∷◌, ◌++◌, Some, None, Ok, Err, Option, Result, sym, refl, ap, ◌∙◌, ap₂, arith}
 use Rattle.fault.specs.declared.fault.Fault.{Fault}
 use Rattle.fault.specs.declared.cause.Cause.{Cause}
 use Rattle.orders.specs.declared.phase.Phase.TheVariants.{Running}
 use Rattle.orders.specs.Steps.{after, verdict, grown}
-use Rattle.undo.specs.Undoing.{Undoing, next, taken_by, fed, Undone, undone, undone_on}
+use Rattle.undo.specs.Undoing.{Undoing, next, taken_by, Undone, undone, undone_on}
 use Rattle.taker.specs.Paragraph.{Order, Taker}
 use Rattle.taker.specs.Events.{Event}
 use Rattle.folding.proofs.Constructors.{some_none}
 use Rattle.reading.specs.Machine.{State, Step, hands, refuses, step}
 use Rattle.reading.specs.Runs.{Run, run, run_by}
 use Rattle.reader.specs.Handing.{Handing, as_order, number_on, handed_by, hand, orders_for, more_unless}
-use Rattle.reader.specs.Reading.{Reading, Read, handed_on, with_taker, stepped, undone_byte, settled, byte, bytes, then_read, accepted, counted_by}
+use Rattle.reader.specs.Reading.{Reading, Read, handed_on, with_taker, stepped, undone_byte, settled, byte, bytes, then_read}
 use Rattle.reader.proofs.Handing.{hand_append}
 use Rattle.conversation.specs.Reads.{undone_orders, step_orders, byte_orders, chunk_orders}
 

@@ -1,21 +1,18 @@
 -- A composer does what the rules state, order by order.
-use Rattle.std.proofs.Common.{◌≡◌, ℕ, ◌+◌, ◌≤◌, Bool, true, false, cond, ◌&&◌, leb, List, [], ◌∷◌, ◌++◌, Some, None, Option, sym, refl, ap, ◌∙◌, subst, arith, leb-true}
+use Rattle.std.proofs.Common.{◌≡◌, ℕ, ◌≤◌, Bool, true, false, cond, List, ◌++◌, Some, None, Option, sym, refl, ap, ◌∙◌, subst, arith}
 use Rattle.fault.specs.declared.fault.Fault.{Fault}
 use Rattle.fault.specs.declared.cause.Cause.{Cause}
-use Rattle.fault.specs.declared.cause.Cause.TheVariants.{BadStart}
 use Rattle.fault.specs.declared.layer.Layer.TheVariants.{Composer as composer_layer}
 use Rattle.fault.specs.Faults.{own, leaves, raise}
 use Rattle.fault.specs.Answers.{raised, or_else, answer}
-use Rattle.orders.specs.declared.phase.Phase.{Phase}
 use Rattle.orders.specs.declared.phase.Phase.TheVariants.{Running, Closed, Shut}
 use Rattle.orders.specs.Phases.{gone}
 use Rattle.orders.specs.Permits.{Filled}
 use Rattle.orders.specs.Steps.{after, verdict, value, answered, shown, place_on}
-use Rattle.orders.specs.Lists.{sent, sent_on, sent_fault, reach}
+use Rattle.orders.specs.Lists.{sent, sent_on, sent_fault}
 use Rattle.orders.proofs.Sending.{ran_reach}
 use Rattle.orders.proofs.Appending.{sent_append, sent_fault_append}
 use Rattle.sink.specs.Sink.{Sink, down}
-use Rattle.sink.specs.Sink.{Order as SinkOrder}
 use Rattle.sink.proofs.Going.{down_going}
 use Rattle.taker.specs.Paragraph.{Order, opens, texts, ends, gives_up, finishes, closes, counts, Taker}
 use Rattle.taker.specs.Mail.{Paragraph}
@@ -24,10 +21,9 @@ use Rattle.layer.proofs.Steps.{layer_verdict, layer_foot, layer_on, layer_shut, 
 use Rattle.layer.proofs.Wiring.{down_append}
 use Rattle.folding.proofs.Constructors.{some_none}
 use Rattle.composer.specs.Machine.{Composing, composer}
-use Rattle.composer.specs.Composers.{good_start, born, new_means}
 use Rattle.composer.proofs.Stirring.{composer_stirs}
-use Rattle.conversation.specs.Mail.{Mail, nothing, bytes_for, place_for, mail_with}
-use Rattle.conversation.specs.Rules.{own_cause, finish_cause, Course, goes, finished, shut, SoFar, at_first, refused_own, fares, foot_by, fault_by, foot_in, standing_in, verdict_for, value_for, answer_for, next_by, next_for}
+use Rattle.conversation.specs.Mail.{Mail, bytes_for, place_for, mail_with}
+use Rattle.conversation.specs.Rules.{own_cause, finish_cause, goes, finished, shut, SoFar, refused_own, fares, foot_by, fault_by, foot_in, standing_in, verdict_for, value_for, answer_for, next_by, next_for}
 use Rattle.conversation.proofs.MailMoves.{state_for, MailOk, MovesOn, stops_as_ruled, moves_on, tells_so}
 
 -- bytes that went down after others

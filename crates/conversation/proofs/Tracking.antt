@@ -13,14 +13,14 @@ use Rattle.folding.specs.Text.{settled}
 use Rattle.folding.specs.Folding.{folding}
 use Rattle.folding.proofs.Constructors.{same_some, some_none}
 use Rattle.history.specs.History.{Ask, to_open, to_end, to_give_up, to_finish, order, Step, asked, fed, Reached, begun, asks, feeds}
-use Rattle.history.specs.Orders.{orders, accepted}
+use Rattle.history.specs.Orders.{orders}
 use Rattle.history.specs.Stated.{tally}
 use Rattle.history.specs.Settled.{settle, Track, joined, listing, noted, track, finish_in, has_finished}
 use Rattle.composer.specs.Machine.{limit, refuse_if}
 use Rattle.composer.specs.Composers.{good_start, new_means}
 use Rattle.conversation.specs.Mail.{Mail, with_text, with_ended, place_for, mail_with}
 use Rattle.conversation.specs.Rules.{text_cause, own_cause, Course, goes, finished, shut, SoFar, at_first, refused_own, fault_by, verdict_in, verdict_for, value_for, answer_for, next_by, next_in, next_for, follows, bytes_taken, start_for, reached_by}
-use Rattle.conversation.proofs.Ruling.{Meets, met}
+use Rattle.conversation.proofs.Ruling.{met}
 use Rattle.conversation.proofs.AsRuled.{as_ruled, reached_met}
 
 abbrev pub track_of : Mail → Track

@@ -1,5 +1,5 @@
 -- The promise over whole runs: what holds between two composing runs, and between them and two reading runs.
-use Rattle.std.specs.Prelude.{◌≡◌, ℕ, true, ◌↔◌, List, [], ◌∷◌, None, Ok, Result}
+use Rattle.std.specs.Prelude.{◌≡◌, ℕ, true, ◌↔◌, List, ◌∷◌, None, Ok, Result}
 use Rattle.fault.specs.declared.fault.Fault.{Fault}
 use Rattle.orders.specs.Steps.{shown}
 use Rattle.orders.specs.Lists.{sent, sent_fault}

@@ -1,6 +1,6 @@
 -- What the rules state for a list of orders to a composer of width w over a sink that meant m at the start: which orders are
 -- accepted, what each is answered, and what the end took. Texts are folded whole, and what goes down is looked at from the start.
-use Rattle.std.specs.Prelude.{◌≡◌, ℕ, ◌+◌, Bool, true, false, cond, not, List, [], ◌∷◌, ◌++◌, length, is_some, Some, None, Option, Result, ◌==◌, nat_le, nat_lt}
+use Rattle.std.specs.Prelude.{◌≡◌, ℕ, Bool, true, false, cond, not, List, [], ◌∷◌, ◌++◌, length, is_some, Some, None, Option, Result, ◌==◌, nat_le, nat_lt}
 use Rattle.fault.specs.declared.fault.Fault.{Fault}
 use Rattle.fault.specs.declared.cause.Cause.{Cause}
 use Rattle.fault.specs.declared.cause.Cause.TheVariants.{ParagraphOpen, NoParagraph, TooDeep, ParagraphLeft, AfterClose, AfterShut, BarredByte, OverLimit, NoFolding, GivenUp, WrongNumber, BadStart}

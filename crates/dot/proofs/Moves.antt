@@ -1,5 +1,5 @@
 -- The dot stage's moves, at the tests that the code makes.
-use Rattle.std.proofs.Common.{◌≡◌, ℕ, Bool, true, false, List, [], ◌∷◌, Some, None, Option, sym, refl, ap, ap₂, arith}
+use Rattle.std.proofs.Common.{◌≡◌, ℕ, Bool, true, false, [], Some, None, Option, sym, refl, ap, ap₂, arith}
 use Rattle.fault.specs.declared.cause.Cause.TheVariants.{Unpaired, Incomplete}
 use Rattle.sink.specs.Sink.{put, close}
 use Rattle.layer.specs.Layer.{Stirs, sends, stops}

@@ -1,5 +1,5 @@
 -- The dot stage: a 2E at a line beginning goes out twice, all else once.
-use Rattle.std.specs.Prelude.{ℕ, Bool, true, false, cond, List, [], ◌∷◌, ◌++◌, Some, None, Option, ◌==◌}
+use Rattle.std.specs.Prelude.{ℕ, Bool, true, false, cond, List, [], ◌∷◌, Some, None, Option, ◌==◌}
 use Rattle.fault.specs.declared.cause.Cause.TheVariants.{Unpaired, Incomplete}
 use Rattle.fault.specs.declared.layer.Layer.TheVariants.{Dot}
 use Rattle.undo.specs.Undoing.{piped}

@@ -1,5 +1,5 @@
 -- Transparency, RFC 5321 section 4.5.2, over the lines of a whole text.
-use Rattle.std.specs.Prelude.{◌≡◌, ℕ, cond, List, [], ◌∷◌, ◌++◌, map, ◌==◌, ◌≢◌}
+use Rattle.std.specs.Prelude.{ℕ, cond, List, [], ◌∷◌, ◌++◌, map, ◌==◌, ◌≢◌}
 use Rattle.std.specs.List.{AllByRecursion as All}
 
 abbrev pub crlf : List ℕ

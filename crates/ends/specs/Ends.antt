@@ -1,5 +1,5 @@
 -- What an end means: it adds each byte as it is and nothing at close, and refuses only by its permit.
-use Rattle.std.specs.Prelude.{ℕ, Bool, true, false, cond, List, [], ◌∷◌, length, take, Some, None, vec_items, vec_len, Vec, ◌==◌, nat_lt, slice_index}
+use Rattle.std.specs.Prelude.{ℕ, Bool, false, cond, List, [], ◌∷◌, length, take, Some, None, vec_items, vec_len, Vec, ◌==◌, nat_lt, slice_index}
 use Rattle.std.specs.declared.alloc.Global.{Global}
 use Rattle.fault.specs.declared.fault.Fault.{Fault}
 use Rattle.fault.specs.declared.cause.Cause.TheVariants.{AfterClose, AfterShut, Full, Differs, Incomplete}

@@ -11,7 +11,7 @@ use Rattle.fault.specs.Faults.{own, leaves}
 use Rattle.orders.specs.declared.phase.Phase.{Phase}
 use Rattle.orders.specs.declared.phase.Phase.TheVariants.{Running, Closed, Shut}
 use Rattle.orders.specs.Meaning.{Added, Permit, refuses}
-use Rattle.orders.specs.Permits.{Filled, fill, filled, all_of, Permitted}
+use Rattle.orders.specs.Permits.{fill, filled, all_of, Permitted}
 use Rattle.orders.specs.Steps.{shown, grown, place_on}
 use Rattle.orders.specs.Lists.{addition}
 use Rattle.orders.specs.Laws.{Hard}

@@ -1,3 +1,5 @@
 // Ends: the bottom of a pile. The memory end keeps what it takes; the comparing end holds it to a reference text.
+#![tactic(auto)]
+
 pub mod compare;
 pub mod memory;

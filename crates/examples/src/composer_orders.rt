@@ -152,7 +152,7 @@ fn spaces_only(rt: HostRuntime) -> Result<(), Fail> {
     answers(&rt, composer.end(1), 1)?;
     answers(&rt, composer.finish(), 3)?;
     let (memory, len) = composer.into_below().into_memory();
-    assert!(rt; &memory.as_slice()[0..len] == b">\r\n");
+    assert!(rt; &memory.as_slice()[0..len] == b">\r\n".as_slice());
     Ok(())
 }
 

@@ -1,4 +1,6 @@
 // Worked mails, proved together, and tests of what no contract can show.
+#![tactic(auto)]
+
 ghost use Rattle.examples.specs.Mails.{Mails};
 
 #[cfg(test)]

@@ -115,7 +115,7 @@ fn two_paragraphs(rt: HostRuntime) -> Result<(), Fail> {
     }
     let (records, bytes, ended) = store.into_memory();
     assert!(rt; ended == 2);
-    assert!(rt; bytes.as_slice() == b"abcde\xEE");
+    assert!(rt; bytes.as_slice() == b"abcde\xEE".as_slice());
     assert!(rt; records.len() == 3);
     assert!(rt; records[0].depth == 2 && records[0].start == 0 && records[0].length == 3);
     assert!(rt; records[1].depth == 0 && records[1].start == 3 && records[1].length == 2);

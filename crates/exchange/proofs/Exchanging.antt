@@ -1,15 +1,15 @@
 -- What the promise says of an exchange.
-use Rattle.std.proofs.Common.{◌≡◌, ℕ, true, List, [], ◌∷◌, ◌++◌, Option, Result, sym, refl, ap, ◌∙◌, subst, append-nil}
+use Rattle.std.proofs.Common.{◌≡◌, ℕ, List, [], ◌∷◌, ◌++◌, Option, Result, sym, refl, ap, ◌∙◌, subst, append-nil}
 use Rattle.fault.specs.declared.fault.Fault.{Fault}
 use Rattle.undo.specs.Undoing.{Undoing}
 use Rattle.sink.specs.Sink.{Sink}
-use Rattle.sink.specs.Same.{SameUndoing, Matched}
+use Rattle.sink.specs.Same.{SameUndoing}
 use Rattle.taker.specs.Paragraph.{Order, Taker}
 use Rattle.taker.specs.Law.{Lawful}
 use Rattle.taker.specs.Mail.{Paragraph}
-use Rattle.history.specs.History.{Step, Reached}
+use Rattle.history.specs.History.{Reached}
 use Rattle.history.specs.Orders.{orders}
-use Rattle.history.specs.Settled.{settled_paragraphs, has_finished}
+use Rattle.history.specs.Settled.{settled_paragraphs}
 use Rattle.composer.specs.Composers.{new_means}
 use Rattle.reader.specs.Reading.{Reading, new_reading}
 use Rattle.conversation.specs.Reads.{finished, Reads}

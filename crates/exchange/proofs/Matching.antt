@@ -1,5 +1,5 @@
 -- Dot stages over memories of one size.
-use Rattle.std.proofs.Common.{◌≡◌, ℕ, List, [], vec_len, Vec, refl, ap}
+use Rattle.std.proofs.Common.{◌≡◌, ℕ, [], vec_len, Vec, refl, ap}
 use Rattle.std.specs.declared.alloc.Global.{Global}
 use Rattle.orders.specs.Permits.{fill}
 use Rattle.sink.specs.Same.{Matched}

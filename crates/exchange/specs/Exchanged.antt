@@ -1,10 +1,9 @@
 -- A mail exchanged: two composing runs and two reading runs, and what the promise says of them.
-use Rattle.std.specs.Prelude.{◌≡◌, ℕ, true, List, [], ◌∷◌, ◌++◌, None, Ok, Result, Vec}
+use Rattle.std.specs.Prelude.{◌≡◌, ℕ, true, List, ◌∷◌, ◌++◌, None, Ok, Result, Vec}
 use Rattle.std.specs.declared.alloc.Global.{Global}
 use Rattle.fault.specs.declared.fault.Fault.{Fault}
 use Rattle.orders.specs.declared.phase.Phase.TheVariants.{Running}
 use Rattle.orders.specs.Lists.{sent_fault}
-use Rattle.undo.specs.Undoing.{Undoing}
 use Rattle.sink.specs.Sink.{Sink}
 use Rattle.layer.specs.Layer.{layer_means}
 use Rattle.ends.specs.Ends.{memory_means}
@@ -17,9 +16,9 @@ use Rattle.history.specs.History.{Step, Reached}
 use Rattle.history.specs.Orders.{orders}
 use Rattle.history.specs.Settled.{settled_paragraphs, has_finished, handed_on}
 use Rattle.composer.specs.Composers.{new_means}
-use Rattle.reader.specs.Reading.{Reading, new_reading}
+use Rattle.reader.specs.Reading.{Reading}
 use Rattle.conversation.specs.Reads.{StepRead}
-use Rattle.conversation.specs.Promise.{Agree, ReadBack, Holds}
+use Rattle.conversation.specs.Promise.{Agree, ReadBack}
 use Rattle.store.specs.declared.record.Record.{Record}
 use Rattle.exchange.specs.Mail.{mail_orders}
 

@@ -1,4 +1,6 @@
 // A mail exchanged: sent twice, with its text cut at different places, and read back twice.
+#![tactic(auto)]
+
 pub mod exchange;
 pub mod mail;
 pub mod reading_back;

@@ -1,4 +1,6 @@
 // Faults: why, where and at which place an order was refused, and how a fault rises.
+#![tactic(auto)]
+
 pub mod cap;
 pub mod cause;
 pub mod composer;

@@ -1,4 +1,6 @@
 // The program: the text of support mail composed, and carried through the dot stage and back.
+#![tactic(auto)]
+
 mod carry_body;
 mod compose_mail;
 mod compose_options;
@@ -12,6 +14,7 @@ mod words;
 
 use help::HELP;
 use options::Command;
+use std::process::ExitCode;
 use trouble::Trouble;
 
 fn run(rt: &HostRuntime) -> Result<(), Trouble> {
@@ -25,12 +28,12 @@ fn run(rt: &HostRuntime) -> Result<(), Trouble> {
     }
 }
 
-fn main(rt: HostRuntime) -> Result<(), Trouble> {
+fn main(rt: HostRuntime) -> ExitCode {
     match run(&rt) {
-        Ok(()) => Ok(()),
+        Ok(()) => ExitCode::SUCCESS,
         Err(trouble) => {
-            eprintln!(rt; "flowed: {trouble}")?;
-            Err(trouble)
+            let _ = eprintln!(rt; "flowed: {trouble}");
+            ExitCode::FAILURE
         }
     }
 }

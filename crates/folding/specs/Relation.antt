@@ -1,5 +1,5 @@
 -- The rules of folding, as a relation between a settled text and its lines.
-use Rattle.std.specs.Prelude.{◌≡◌, ℕ, ◌<◌, ◌≤◌, [], take, drop, ◌≢◌}
+use Rattle.std.specs.Prelude.{ℕ, ◌<◌, ◌≤◌, [], take, drop, ◌≢◌}
 use Rattle.folding.specs.Text.{Text, signature}
 use Rattle.folding.specs.WireLine.{width}
 use Rattle.folding.specs.Breaks.{Unbroken, FirstBreak, LongestFitting, NoneFitting}

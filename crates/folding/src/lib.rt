@@ -1,5 +1,6 @@
 // How a paragraph's text is folded into lines of format=flowed mail (RFC 3676): definitions and laws, for the crates that send
 // and read such lines.
+#![tactic(auto)]
 
 ghost use Rattle.folding.specs.Laws.{TrimmedTexts, LineWidths, GivenByRules, GivenBySteps, SoundFoldings, ShortLines, SignaturesAlone};
 ghost use Rattle.folding.specs.Laws.{LinesStay, HeldFoldsOn};

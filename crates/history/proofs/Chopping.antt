@@ -1,14 +1,13 @@
 -- Where the text is cut does not matter.
-use Rattle.std.proofs.Common.{◌≡◌, ℕ, List, [], ◌∷◌, Option, sym, refl, ap, ◌∙◌, subst, ap₂}
+use Rattle.std.proofs.Common.{◌≡◌, ℕ, List, [], ◌∷◌, Option, sym, refl, ap, ◌∙◌, subst}
 use Rattle.fault.specs.declared.fault.Fault.{Fault}
 use Rattle.orders.specs.Steps.{after, answered, verdict}
 use Rattle.orders.specs.Alike.{Alike}
 use Rattle.orders.proofs.Alikes.{alike_after, same_answer, same_verdict}
 use Rattle.taker.specs.Paragraph.{Order, Taker}
-use Rattle.history.specs.History.{Step, Reached}
-use Rattle.history.specs.Orders.{Reply, orders, AnsweredAlike}
+use Rattle.history.specs.Orders.{Reply, orders}
 use Rattle.history.specs.Stated.{offered, stated, counted, reply_on, tally}
-use Rattle.history.specs.Chopped.{ChoppedAlike, ChoppingIsHarmless}
+use Rattle.history.specs.Chopped.{ChoppingIsHarmless}
 use Rattle.history.proofs.Stating.{as_stated}
 
 module _ {E : Type 0} where

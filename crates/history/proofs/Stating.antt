@@ -1,16 +1,15 @@
 -- A history leads where the rules lead for its orders, wherever its chunks were cut.
-use Rattle.std.proofs.Common.{◌≡◌, ℕ, suc, ◌+◌, ◌≤◌, Bool, true, false, cond, ◌⊎◌, List, [], ◌∷◌, ◌++◌, take, Some, None, Option, Result, sym, refl, ap, ◌∙◌, subst, ap₂, inl, inr, arith}
+use Rattle.std.proofs.Common.{◌≡◌, ℕ, suc, ◌+◌, Bool, false, cond, ◌⊎◌, List, [], ◌∷◌, ◌++◌, take, Some, None, Option, Result, sym, refl, ap, ◌∙◌, subst, ap₂, inl, inr, arith}
 use Rattle.fault.specs.declared.fault.Fault.{Fault}
 use Rattle.fault.specs.declared.cause.Cause.TheVariants.{AfterShut}
 use Rattle.fault.specs.Faults.{own}
-use Rattle.fault.specs.Answers.{or_else}
 use Rattle.orders.specs.Steps.{after, verdict, answered, reached, settled, mild, stays, shuts}
-use Rattle.orders.specs.Lists.{sent, sent_on, sent_fault, count, count_on}
+use Rattle.orders.specs.Lists.{sent, sent_on, count, count_on}
 use Rattle.orders.proofs.Refusing.{refused, refused_stays}
-use Rattle.taker.specs.Paragraph.{Order, opens, texts, ends, gives_up, finishes, Taker, text_orders}
+use Rattle.taker.specs.Paragraph.{Order, texts, Taker, text_orders}
 use Rattle.taker.specs.Law.{Lawful, LawfulThrough, Deaf, Hearing}
 use Rattle.history.specs.History.{Ask, to_open, to_end, to_give_up, to_finish, order, Step, asked, fed, Reached, begun, asks, feeds}
-use Rattle.history.specs.Orders.{Reply, orders, replies, accepted}
+use Rattle.history.specs.Orders.{Reply, orders}
 use Rattle.history.specs.Stated.{offered, reply_on, stated, tally, counted, AsStated}
 
 -- an order that is no text byte

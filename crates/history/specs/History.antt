@@ -1,5 +1,5 @@
 -- A history: the steps that a paragraph taker was given, with their answers.
-use Rattle.std.specs.Prelude.{◌≡◌, ℕ, List, [], ◌∷◌, ◌++◌, Option, Result}
+use Rattle.std.specs.Prelude.{◌≡◌, ℕ, List, [], ◌∷◌, Option, Result}
 use Rattle.fault.specs.declared.fault.Fault.{Fault}
 use Rattle.orders.specs.Steps.{after, answered}
 use Rattle.orders.specs.Lists.{sent, sent_fault, count}

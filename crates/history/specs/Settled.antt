@@ -1,7 +1,7 @@
 -- What follows from orders and answers: the settled paragraphs of a history, and whether it has finished.
 use Rattle.std.specs.Prelude.{ℕ, ◌+◌, Bool, true, false, List, [], ◌∷◌, ◌++◌, take, Some, None, Ok, Err, Option, Result}
 use Rattle.fault.specs.declared.fault.Fault.{Fault}
-use Rattle.folding.specs.Text.{Text, settled}
+use Rattle.folding.specs.Text.{settled}
 use Rattle.orders.specs.Lists.{each}
 pub use Rattle.taker.specs.Mail.{Paragraph}
 use Rattle.taker.specs.Paragraph.{Order, opens, texts, ends, finishes}

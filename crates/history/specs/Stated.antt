@@ -1,5 +1,5 @@
 -- What the rules state for a list of orders, one by one, past refusals: whatever the chunks were.
-use Rattle.std.specs.Prelude.{◌≡◌, ℕ, ◌+◌, Bool, true, false, List, [], ◌∷◌, Some, None, Option, Result}
+use Rattle.std.specs.Prelude.{◌≡◌, ℕ, ◌+◌, List, [], ◌∷◌, Some, None, Option, Result}
 use Rattle.fault.specs.declared.fault.Fault.{Fault}
 use Rattle.orders.specs.Steps.{after, verdict, answered}
 use Rattle.taker.specs.Paragraph.{Order, opens, texts, ends, gives_up, finishes, Taker}

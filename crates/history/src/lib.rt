@@ -1,4 +1,6 @@
 // Histories of paragraph takers: steps with their answers, and what follows from them.
+#![tactic(auto)]
+
 ghost use Rattle.history.specs.Stated.{HistoriesAsStated};
 ghost use Rattle.history.specs.Chopped.{ChoppingIsHarmless};
 

@@ -1,10 +1,10 @@
 -- The same layer over sinks that match: they are alike.
-use Rattle.std.proofs.Common.{◌≡◌, ℕ, suc, Bool, true, false, cond, List, [], ◌∷◌, ◌++◌, Some, None, Option, sym, refl, ap, ◌∙◌, append_assoc, append-nil, arith}
+use Rattle.std.proofs.Common.{◌≡◌, ℕ, suc, Bool, true, false, List, [], ◌∷◌, ◌++◌, Some, None, Option, sym, refl, ap, ◌∙◌}
 use Rattle.orders.specs.declared.phase.Phase.{Phase}
 use Rattle.orders.specs.declared.phase.Phase.TheVariants.{Running, Closed, Shut}
 use Rattle.fault.specs.declared.fault.Fault.{Fault}
 use Rattle.fault.specs.Answers.{raised}
-use Rattle.orders.specs.Meaning.{up, Kind, Added, Adds, Meaning, later, later_all}
+use Rattle.orders.specs.Meaning.{up, Kind, Added, Adds, later_all}
 use Rattle.orders.specs.Laws.{Sound}
 use Rattle.orders.specs.Lists.{addition, then_added}
 use Rattle.orders.specs.Steps.{place_on}
@@ -13,7 +13,7 @@ use Rattle.sink.specs.Sink.{Sink, down, Order as Sunk}
 use Rattle.orders.specs.Alike.{Alike}
 use Rattle.orders.proofs.Adding.{addition_append}
 use Rattle.std.proofs.lemmas.List.{append_cancel_left}
-use Rattle.sink.specs.Same.{SameStages, Matched}
+use Rattle.sink.specs.Same.{Matched}
 use Rattle.layer.specs.Layer.{Machine, Move, sends, stops, moved, run, run_on, layer_adds, layer_means}
 use Rattle.orders.proofs.Fills.{fill_up, up_none, same_fills}
 

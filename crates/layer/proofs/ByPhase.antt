@@ -1,5 +1,5 @@
 -- What the code of a layer comes to, at each phase.
-use Rattle.std.proofs.Common.{◌≡◌, ℕ, Bool, true, false, cond, leb, List, [], ◌∷◌, Some, None, Ok, Err, Option, Result, sym, refl, ap, ◌∙◌, ap₂, arith}
+use Rattle.std.proofs.Common.{◌≡◌, ℕ, Bool, true, false, cond, List, [], Some, None, Option, sym, refl, ap, ◌∙◌, arith}
 use Rattle.orders.specs.declared.phase.Phase.{Phase}
 use Rattle.orders.specs.declared.phase.Phase.TheVariants.{Running, Closed, Shut}
 use Rattle.fault.specs.declared.fault.Fault.{Fault}
@@ -7,9 +7,9 @@ use Rattle.fault.specs.declared.cause.Cause.{Cause}
 use Rattle.fault.specs.declared.cause.Cause.TheVariants.{AfterClose, AfterShut}
 use Rattle.fault.specs.Faults.{leaves}
 use Rattle.fault.specs.Faults.{own, raise}
-use Rattle.fault.specs.Answers.{raised, answer}
+use Rattle.fault.specs.Answers.{raised}
 use Rattle.orders.specs.Meaning.{Kind, Meaning}
-use Rattle.orders.specs.Steps.{after, verdict, value, shown, place_on}
+use Rattle.orders.specs.Steps.{after, value, shown, place_on}
 use Rattle.orders.specs.Lists.{sent, sent_fault}
 use Rattle.sink.specs.Sink.{Sink, down}
 use Rattle.layer.specs.Layer.{Machine, sends, stops, Stirs, layer_means, layer_says}

@@ -11,7 +11,7 @@ use Rattle.undo.proofs.Compose.{Back, back, back_whole, composed}
 use Rattle.sink.specs.Sink.{Sink, bytes, down}
 use Rattle.sink.specs.Law.{Accepts, Lawful}
 use Rattle.sink.proofs.Going.{down_going}
-use Rattle.layer.specs.Layer.{Machine, layer_means, layer_fresh, lifted, run}
+use Rattle.layer.specs.Layer.{Machine, layer_means, layer_fresh, lifted}
 use Rattle.layer.specs.Wire.{wire}
 use Rattle.layer.proofs.Sound.{layer_sound, both_true}
 use Rattle.layer.proofs.Wiring.{wire_adds, added_wire}

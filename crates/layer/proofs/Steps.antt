@@ -1,20 +1,20 @@
 -- What a layer's orders do, by what those that it sends down do below.
-use Rattle.std.proofs.Common.{◌≡◌, ℕ, ◌+◌, min, Bool, true, false, cond, eqb, leb, List, [], ◌∷◌, ◌++◌, Some, None, Ok, Err, Option, Result, sym, refl, ap, ◌∙◌, arith, ne_eqb}
+use Rattle.std.proofs.Common.{◌≡◌, ℕ, ◌+◌, min, Bool, true, false, cond, List, [], ◌∷◌, Some, None, Option, sym, refl, ap, ◌∙◌, arith, ne_eqb}
 use Rattle.orders.specs.declared.phase.Phase.TheVariants.{Running, Closed, Shut}
 use Rattle.fault.specs.declared.fault.Fault.{Fault}
 use Rattle.fault.specs.declared.cause.Cause.{Cause}
 use Rattle.fault.specs.declared.cause.Cause.TheVariants.{AfterClose, AfterShut}
 use Rattle.fault.specs.Faults.{leaves}
-use Rattle.fault.specs.Answers.{or_else, raised, told, answer}
+use Rattle.fault.specs.Answers.{or_else, raised}
 use Rattle.fault.specs.Faults.{own, raise, most}
-use Rattle.orders.specs.Meaning.{Kind, Added, Adds, Fixed, Meaning, bars, ending, later, refuses, silent}
+use Rattle.orders.specs.Meaning.{Kind, Added, Fixed, Meaning, bars, ending, refuses, silent}
 use Rattle.orders.specs.Permits.{Filled, fill, lift}
-use Rattle.orders.specs.Steps.{finished, if_closing, adds_on, reached, settled, shuts, stays, after, verdict, mild, says_on, place_on}
-use Rattle.orders.specs.Lists.{addition, sent, sent_fault, ran, reach}
-use Rattle.sink.specs.Sink.{Order, put, close, Sink, bytes, down, last}
+use Rattle.orders.specs.Steps.{finished, adds_on, reached, settled, shuts, stays, after, verdict, mild, says_on, place_on}
+use Rattle.orders.specs.Lists.{addition, sent, sent_fault, ran}
+use Rattle.sink.specs.Sink.{Order, put, Sink, bytes, down}
 use Rattle.layer.specs.Layer.{Machine, Move, sends, stops, state_on, state_after, moved, run, run_on, both, Stirs, layer_means, layer_fixed, layer_adds, layer_says, layer_fresh}
 use Rattle.orders.specs.Phases.{gone, stands}
-use Rattle.orders.proofs.Fills.{fill_raised, raised_none}
+use Rattle.orders.proofs.Fills.{fill_raised}
 use Rattle.orders.proofs.Refusing.{refused, refused_stays, refused_shuts}
 use Rattle.sink.proofs.Going.{down_going}
 use Rattle.orders.proofs.Sending.{settled_foot, ran_reach, sent_fixed, went, staled}

@@ -1,14 +1,14 @@
 -- Two takers that add, permit and answer alike do so after every order.
-use Rattle.std.proofs.Common.{◌≡◌, ℕ, Bool, true, false, cond, List, [], ◌∷◌, ◌++◌, Some, None, Option, sym, refl, ap, ◌∙◌, subst, append_assoc, append-nil}
+use Rattle.std.proofs.Common.{◌≡◌, Bool, true, false, cond, List, [], ◌∷◌, ◌++◌, Some, None, Option, sym, refl, ap, ◌∙◌, subst, append_assoc, append-nil}
 use Rattle.std.proofs.lemmas.List.{append_cancel_left}
 use Rattle.fault.specs.declared.fault.Fault.{Fault}
 use Rattle.fault.specs.declared.cause.Cause.TheVariants.{AfterClose, AfterShut}
 use Rattle.fault.specs.Faults.{own}
 use Rattle.fault.specs.Answers.{or_else, answer}
 use Rattle.orders.specs.Alike.{Alike}
-use Rattle.orders.specs.Meaning.{Kind, Added, Meaning, bars, ending, later, refuses, silent}
+use Rattle.orders.specs.Meaning.{Kind, Added, Meaning, bars, ending, later, refuses}
 use Rattle.orders.specs.Permits.{Filled, fill, Bars}
-use Rattle.orders.specs.Steps.{finished, if_closing, reached, mild, accepts, stays, shuts, settled, after, verdict, value, answered, adds_on, says_on, place_on, shown}
+use Rattle.orders.specs.Steps.{if_closing, reached, mild, stays, shuts, settled, after, verdict, value, answered, adds_on, says_on, place_on, shown}
 use Rattle.orders.specs.Lists.{then_added, addition}
 use Rattle.orders.proofs.Fills.{cont, fill_append, Prefix, fill_prefix, fill_whole, both_none}
 

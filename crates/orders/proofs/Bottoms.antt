@@ -1,12 +1,12 @@
 -- What orders do to a taker with nothing below it, at each phase.
-use Rattle.std.proofs.Common.{◌≡◌, ℕ, Bool, true, false, cond, List, [], ◌∷◌, ◌++◌, Some, None, Option, sym, refl, ap, ◌∙◌, arith}
+use Rattle.std.proofs.Common.{◌≡◌, ℕ, Bool, true, false, cond, List, [], ◌∷◌, Some, None, Option, sym, refl, ap, ◌∙◌, arith}
 use Rattle.fault.specs.declared.fault.Fault.{Fault}
 use Rattle.fault.specs.declared.cause.Cause.{Cause}
 use Rattle.fault.specs.declared.cause.Cause.TheVariants.{AfterClose, AfterShut}
 use Rattle.fault.specs.Faults.{own, leaves}
 use Rattle.orders.specs.declared.phase.Phase.{Phase}
 use Rattle.orders.specs.declared.phase.Phase.TheVariants.{Running, Closed, Shut}
-use Rattle.orders.specs.Meaning.{Kind, Permit, Meaning, Added, refuses}
+use Rattle.orders.specs.Meaning.{Kind, Permit, Meaning, refuses}
 use Rattle.orders.specs.Permits.{Filled, fill, Permitted}
 use Rattle.orders.specs.Steps.{finished, if_closing, reached, adds_on, says_on, settled, stays, shuts, mild, after, verdict, place_on}
 use Rattle.orders.specs.Laws.{Sound, Hard}

@@ -1,7 +1,6 @@
 -- The foot only grows, so what stands behind it later stood behind it before.
-use Rattle.std.proofs.Common.{◌≡◌, ℕ, ◌+◌, ◌-◌, ◌≤◌, List, [], ◌∷◌, ◌++◌, length, drop, sym, refl, ap, ◌∙◌, arith, length-append, drop-drop}
+use Rattle.std.proofs.Common.{◌≡◌, ℕ, ◌+◌, ◌-◌, ◌≤◌, List, [], length, drop, sym, ap, ◌∙◌, arith, length-append, drop-drop}
 use Rattle.orders.specs.Meaning.{Kind, Meaning, bars}
-use Rattle.orders.specs.Permits.{fill}
 use Rattle.orders.specs.Steps.{reached, after}
 use Rattle.orders.specs.Behind.{Behind}
 use Rattle.orders.proofs.Fills.{fill_prefix}

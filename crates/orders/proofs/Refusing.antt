@@ -1,5 +1,5 @@
 -- A refusal of the layer's own.
-use Rattle.std.proofs.Common.{◌≡◌, ℕ, Bool, true, false, cond, List, [], ◌∷◌, Some, None, Option, sym, refl, ap, ◌∙◌}
+use Rattle.std.proofs.Common.{◌≡◌, Bool, true, false, cond, [], Some, sym, ap, ◌∙◌}
 use Rattle.fault.specs.declared.fault.Fault.{Fault}
 use Rattle.orders.specs.Meaning.{Kind, Added, Meaning, bars, ending}
 use Rattle.orders.specs.Permits.{Filled, fill}

@@ -1,8 +1,8 @@
 -- Orders handed on one by one come to what their addition comes to as a whole.
-use Rattle.std.proofs.Common.{◌≡◌, ℕ, Bool, true, false, cond, List, [], ◌∷◌, ◌++◌, Some, None, Option, sym, refl, ap, ◌∙◌, append-nil, arith}
+use Rattle.std.proofs.Common.{◌≡◌, Bool, true, false, cond, List, [], ◌∷◌, Some, None, Option, sym, refl, ap, ◌∙◌, append-nil}
 use Rattle.fault.specs.declared.fault.Fault.{Fault}
 use Rattle.fault.specs.Answers.{or_else}
-use Rattle.orders.specs.Meaning.{Kind, Added, Fixed, Meaning, bars, ending, later, later_all}
+use Rattle.orders.specs.Meaning.{Kind, Added, Meaning, bars, ending, later, later_all}
 use Rattle.orders.specs.Permits.{Filled, fill, Bars}
 use Rattle.orders.specs.Steps.{finished, if_closing, reached, mild, stays, shuts, settled, adds_on, after, verdict}
 use Rattle.orders.specs.Lists.{then_added, addition, sent, sent_on, sent_fault, ran, reach}

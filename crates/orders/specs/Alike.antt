@@ -1,5 +1,5 @@
 -- Two takers that cannot be told apart by their orders.
-use Rattle.std.specs.Prelude.{◌≡◌, ℕ, List, ◌++◌, None}
+use Rattle.std.specs.Prelude.{◌≡◌, List, ◌++◌, None}
 use Rattle.orders.specs.Meaning.{Kind, Meaning, bars, ending}
 use Rattle.orders.specs.Permits.{fill}
 use Rattle.orders.specs.Lists.{addition}

@@ -1,5 +1,5 @@
 -- A chunk that is refused nowhere is accepted whole.
-use Rattle.std.proofs.Common.{◌≡◌, ℕ, ◌+◌, List, [], ◌∷◌, length, Some, None, Option, refl, ap, ◌∙◌, arith}
+use Rattle.std.proofs.Common.{◌≡◌, ℕ, List, [], ◌∷◌, length, None, Option, refl, ap, arith}
 use Rattle.fault.specs.declared.fault.Fault.{Fault}
 use Rattle.orders.specs.Steps.{after, verdict}
 use Rattle.orders.specs.Lists.{sent_fault, count, count_on}

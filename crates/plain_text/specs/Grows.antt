@@ -1,5 +1,5 @@
 -- How a history grows.
-use Rattle.std.specs.Prelude.{◌≡◌, ℕ, List, [], ◌∷◌, ◌++◌, length, None, Ok, Err, Result}
+use Rattle.std.specs.Prelude.{◌≡◌, ℕ, List, [], ◌∷◌, ◌++◌, length, None, Ok, Result}
 use Rattle.fault.specs.declared.fault.Fault.{Fault}
 use Rattle.taker.specs.Paragraph.{Taker}
 use Rattle.history.specs.History.{Step, asked, fed, to_open, to_end, Reached}

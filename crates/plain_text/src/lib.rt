@@ -1,4 +1,6 @@
 // The lines of a plain text, handed to a paragraph taker as paragraphs.
+#![tactic(auto)]
+
 pub mod line;
 pub mod lines;
 pub mod paragraph;

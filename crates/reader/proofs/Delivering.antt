@@ -1,5 +1,5 @@
 -- Deliveries, one after the other.
-use Rattle.std.proofs.Common.{◌≡◌, ℕ, List, [], ◌∷◌, ◌++◌, Some, None, Ok, Err, Option, Result, sym, refl, ap, ◌∙◌, arith}
+use Rattle.std.proofs.Common.{◌≡◌, ℕ, List, [], ◌++◌, Some, None, Ok, Err, Option, Result, sym, refl, ap, ◌∙◌, arith}
 use Rattle.fault.specs.declared.fault.Fault.{Fault}
 use Rattle.fault.specs.Answers.{answer, raised}
 use Rattle.orders.specs.Lists.{sent, sent_fault}
@@ -11,7 +11,7 @@ use Rattle.reading.specs.Events.{texts}
 use Rattle.reader.specs.declared.delivery.Delivery.{Delivery}
 use Rattle.reader.specs.Handing.{Handing, handed_by, hand}
 use Rattle.reader.specs.Deliveries.{Hands, Delivered}
-use Rattle.reader.proofs.Handing.{handed_then, hand_append, hand_texts}
+use Rattle.reader.proofs.Handing.{hand_append, hand_texts}
 
 raised_some : (x : Option Fault) (f : Fault) → raised x ≡ Some f → (g : Fault) × (x ≡ Some g)
 raised_some (Some g) f e = (g, refl)

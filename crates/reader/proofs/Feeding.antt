@@ -1,5 +1,5 @@
 -- A chunk's bytes, by what is still to come.
-use Rattle.std.proofs.Common.{◌≡◌, ℕ, ◌+◌, List, [], ◌∷◌, Some, None, Option, sym, refl, ap, ◌∙◌, arith}
+use Rattle.std.proofs.Common.{◌≡◌, ℕ, ◌+◌, List, ◌∷◌, Some, None, Option, sym, refl, ap, ◌∙◌, arith}
 use Rattle.fault.specs.declared.fault.Fault.{Fault}
 use Rattle.reader.specs.Reading.{Reading, Read, byte, then_read, bytes, counted_by, accepted}
 

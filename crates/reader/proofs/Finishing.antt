@@ -1,9 +1,8 @@
 -- A finish outside a line, over an undoing stage that may stop, where the end of the open paragraph was accepted.
-use Rattle.std.proofs.Common.{◌≡◌, ℕ, List, [], Some, None, Ok, Err, Option, Result, sym, refl, ap, ◌∙◌, ap₂}
+use Rattle.std.proofs.Common.{◌≡◌, ℕ, List, [], None, Ok, Option, Result, sym, ap, ◌∙◌, ap₂}
 use Rattle.fault.specs.declared.fault.Fault.{Fault}
 use Rattle.fault.specs.declared.cause.Cause.{Cause}
-use Rattle.fault.specs.Answers.{answer, raised}
-use Rattle.orders.specs.Steps.{after, verdict, value}
+use Rattle.orders.specs.Steps.{value}
 use Rattle.orders.proofs.Answering.{answer_ok}
 use Rattle.orders.proofs.Fills.{raised_none}
 use Rattle.taker.specs.Paragraph.{Taker, finishes}
@@ -11,7 +10,7 @@ use Rattle.taker.specs.Events.{Event}
 use Rattle.reading.specs.Machine.{finish}
 use Rattle.reader.specs.Handing.{Handing, hand}
 use Rattle.reader.specs.Deliveries.{Hands}
-use Rattle.reader.specs.Reading.{Reading, Read, with_taker, taker_finish, last_orders, if_stopped, line_finish, last_events, finish_tells}
+use Rattle.reader.specs.Reading.{Reading, with_taker, taker_finish, last_orders, if_stopped, line_finish, last_events, finish_tells}
 
 module _ {E : Type 0} (r : Reading E) (es : List Event) (t : Taker E) (n : ℕ) where
   abbrev ended : Reading E

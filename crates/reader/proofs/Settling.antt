@@ -1,14 +1,12 @@
 -- A reader that goes on: what its bytes and its finish come to, in every phase.
 use Rattle.std.proofs.Common.{◌≡◌, ℕ, [], Some, None, Ok, Err, Option, Result, sym, refl, ap, ◌∙◌, arith}
 use Rattle.fault.specs.declared.fault.Fault.{Fault}
-use Rattle.fault.specs.Answers.{answer, via}
 use Rattle.orders.specs.declared.phase.Phase.{Phase}
 use Rattle.orders.specs.declared.phase.Phase.TheVariants.{Running, Closed, Shut}
-use Rattle.orders.proofs.Answering.{answer_err, answer_ok}
 use Rattle.undo.specs.Undoing.{fed}
 use Rattle.reading.specs.Machine.{State, Step, hands, refuses, step}
-use Rattle.reader.specs.Handing.{Handing, hand}
-use Rattle.reader.specs.Reading.{Reading, Read, with_taker, with_phase, with_undo, phase_by, handed_on, told, stepped, undone_byte, wire_byte, settled, unless_over, byte}
+use Rattle.reader.specs.Handing.{hand}
+use Rattle.reader.specs.Reading.{Reading, Read, with_taker, with_phase, with_undo, phase_by, handed_on, stepped, undone_byte, wire_byte, settled, unless_over}
 use Rattle.reader.specs.Readers.{over_fault}
 
 -- not over, it is running

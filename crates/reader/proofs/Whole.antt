@@ -1,5 +1,5 @@
 -- What a chunk comes to, byte by byte, is what it comes to as a whole.
-use Rattle.std.proofs.Common.{◌≡◌, ℕ, ◌+◌, ◌≤◌, min, List, [], ◌∷◌, ◌++◌, Some, None, Ok, Err, Option, Result, sym, refl, ap, ◌∙◌, subst, arith}
+use Rattle.std.proofs.Common.{◌≡◌, ℕ, ◌+◌, ◌≤◌, min, List, [], ◌∷◌, Some, None, Ok, Err, Option, Result, sym, refl, ap, ◌∙◌, subst, arith}
 use Rattle.fault.specs.declared.fault.Fault.{Fault}
 use Rattle.fault.specs.declared.cause.Cause.{Cause}
 use Rattle.fault.specs.declared.layer.Layer.TheVariants.{Reader as reader_layer}
@@ -8,13 +8,13 @@ use Rattle.fault.specs.Answers.{raised, or_else}
 use Rattle.orders.specs.declared.phase.Phase.{Phase}
 use Rattle.orders.specs.declared.phase.Phase.TheVariants.{Running}
 use Rattle.orders.specs.Steps.{grown}
-use Rattle.undo.specs.Undoing.{Undone, next, undone, undone_on, taken_by}
+use Rattle.undo.specs.Undoing.{next, undone, undone_on, taken_by}
 use Rattle.taker.specs.Paragraph.{Taker}
 use Rattle.reading.specs.Machine.{State, Step, hands, refuses, step}
-use Rattle.reading.specs.Runs.{Run, run, run_by}
+use Rattle.reading.specs.Runs.{run, run_by}
 use Rattle.reader.specs.Handing.{Handing, hand}
 use Rattle.reader.specs.Reading.{Reading, Read, with_phase, with_undo, on_line, with_taker, told, stepped, undone_byte, settled, then_read, bytes}
-use Rattle.reader.specs.Whole.{read_count, read_count_by, refusal_of, first_fault, AsAWhole, Whole}
+use Rattle.reader.specs.Whole.{read_count, read_count_by, refusal_of, AsAWhole, Whole}
 use Rattle.reader.proofs.Handing.{handed_then, hand_append}
 
 -- counting goes on where it was capped

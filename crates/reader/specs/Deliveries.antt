@@ -5,7 +5,7 @@ use Rattle.fault.specs.Answers.{answer, raised}
 use Rattle.taker.specs.Paragraph.{Taker}
 use Rattle.taker.specs.Events.{Event}
 use Rattle.reader.specs.declared.delivery.Delivery.{Delivery}
-use Rattle.reader.specs.Handing.{Handing, hand}
+use Rattle.reader.specs.Handing.{hand}
 
 -- events went to the taker m with the number k, to the first refusal, and left it as n with the number l: the answer is that
 -- refusal, a level higher

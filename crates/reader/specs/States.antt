@@ -1,5 +1,5 @@
 -- Where the code stands in a line, as a state of reading.
-use Rattle.std.specs.Prelude.{ℕ, Bool, cond, List, take, Ok, Err, Result}
+use Rattle.std.specs.Prelude.{ℕ, Bool, cond, List, Ok, Err, Result}
 use Rattle.fault.specs.declared.cause.Cause.{Cause}
 use Rattle.reading.specs.Events.{Event, texts}
 use Rattle.reading.specs.Held.{begins_at, signs_at}

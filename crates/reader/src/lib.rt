@@ -1,4 +1,6 @@
 // The reader: wire bytes through any undoing stage, paragraphs to any taker.
+#![tactic(auto)]
+
 mod delivery;
 mod line;
 mod plan;

@@ -6,7 +6,7 @@ use Rattle.folding.specs.Text.{Text}
 use Rattle.folding.specs.Reading.{Line}
 use Rattle.reading.specs.Lines.{Readable, text_of, read_lines}
 use Rattle.reading.specs.Paragraphs.{paragraphs, still_open}
-use Rattle.reading.specs.Events.{Event, text, told, told_so_far}
+use Rattle.reading.specs.Events.{Event, told, told_so_far}
 use Rattle.reading.specs.Machine.{State, at_line, start}
 use Rattle.reading.specs.Runs.{Run, run, read}
 

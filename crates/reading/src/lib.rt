@@ -1,4 +1,6 @@
 // What the wire bytes of format=flowed mail (RFC 3676) mean to a reader: lines, paragraphs, and the account byte by byte.
+#![tactic(auto)]
+
 ghost use Rattle.reading.specs.Laws.{BytesInTurn, ContentsKept, LinesRead, OnlyLinesRead};
 ghost use Rattle.reading.specs.InOrder.{HandedInOrder};
 ghost use Rattle.reading.specs.Refusals.{Refusals};

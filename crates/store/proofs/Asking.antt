@@ -1,6 +1,5 @@
 -- What the store's own refusals come to.
-use Rattle.std.proofs.Common.{◌≡◌, ℕ, min, Bool, true, false, Some, None, vec_items, Option, sym, refl, ap, ◌∙◌, arith}
-use Rattle.fault.specs.declared.fault.Fault.{Fault}
+use Rattle.std.proofs.Common.{◌≡◌, ℕ, min, true, false, Some, vec_items, sym, ap, ◌∙◌, arith}
 use Rattle.fault.specs.declared.cause.Cause.{Cause}
 use Rattle.fault.specs.declared.cause.Cause.TheVariants.{AfterClose, AfterShut}
 use Rattle.fault.specs.declared.layer.Layer.TheVariants.{Store as Layered}
@@ -8,9 +7,7 @@ use Rattle.fault.specs.declared.store.StoreFault.{StoreFault}
 use Rattle.fault.specs.Faults.{own, leaves, most}
 use Rattle.fault.specs.Kinds.{store_fault}
 use Rattle.orders.specs.declared.phase.Phase.TheVariants.{Running, Closed, Shut}
-use Rattle.orders.specs.Steps.{after, verdict}
 use Rattle.orders.specs.Bottom.{Step, takes, stops}
-use Rattle.orders.proofs.Did.{Did}
 use Rattle.orders.proofs.Bottoms.{in_closed, in_shut, in_mild, in_own}
 use Rattle.taker.specs.Paragraph.{Order}
 use Rattle.store.specs.declared.store.Store.{Store}

@@ -1,6 +1,5 @@
 -- The foot after an order that was written.
 use Rattle.std.proofs.Common.{◌≡◌, ℕ, ◌+◌, ◌*◌, ◌<◌, ◌≤◌, Bool, true, false, List, [], ◌∷◌, ◌++◌, length, take, drop, set, Some, sym, refl, ap, ◌∙◌, ap₂, append_assoc, append-nil, arith, length-append, length-drop, length-take}
-use Rattle.std.specs.List.{flat_map}
 use Rattle.std.proofs.lemmas.List.{take-set, drop-set, drop-set-add, take_more, take_more_set}
 use Rattle.orders.specs.Lists.{each}
 use Rattle.store.specs.declared.record.Record.{Record}

@@ -1,5 +1,5 @@
 -- Each order that is written, or that finds no room.
-use Rattle.std.proofs.Common.{◌≡◌, ℕ, ◌+◌, ◌<◌, ◌≤◌, min, Bool, true, false, ltb, List, [], ◌∷◌, ◌++◌, length, take, drop, set, Some, None, vec_items, Option, sym, refl, ap, ◌∙◌, subst, ap₂, arith, length-set, le-ltb, lt-ltb}
+use Rattle.std.proofs.Common.{◌≡◌, ℕ, ◌+◌, ◌<◌, ◌≤◌, min, Bool, true, false, ltb, List, [], ◌∷◌, ◌++◌, length, set, Some, None, vec_items, Option, sym, refl, ap, ◌∙◌, subst, arith, length-set, le-ltb, lt-ltb}
 use Rattle.std.proofs.lemmas.List.{take-set, drop-set-lt}
 use Rattle.fault.specs.declared.fault.Fault.{Fault}
 use Rattle.fault.specs.declared.cause.Cause.TheVariants.{Full}
@@ -7,9 +7,8 @@ use Rattle.fault.specs.declared.layer.Layer.TheVariants.{Store as Layered}
 use Rattle.fault.specs.declared.store.StoreFault.{StoreFault}
 use Rattle.fault.specs.Faults.{own, most}
 use Rattle.fault.specs.Kinds.{store_fault}
-use Rattle.orders.specs.declared.phase.Phase.{Phase}
 use Rattle.orders.specs.declared.phase.Phase.TheVariants.{Running, Closed, Shut}
-use Rattle.orders.specs.Permits.{fill, filled}
+use Rattle.orders.specs.Permits.{filled}
 use Rattle.orders.specs.Phases.{phased}
 use Rattle.orders.specs.Steps.{grown}
 use Rattle.orders.specs.Bottom.{bottom_means}
@@ -20,9 +19,9 @@ use Rattle.store.specs.Events.{Event, opened, text, ended, if_room, holds, told_
 use Rattle.store.specs.Store.{at, store, store_step, store_permit}
 use Rattle.store.specs.Contents.{Contents, contents, means_by, with_open, with_text, with_end, longer}
 use Rattle.store.specs.Foot.{Filed, nth, foot_opens, foot_texts}
-use Rattle.store.specs.Keeps.{Keeps, Kept, Stay, stay_all, kept_same}
+use Rattle.store.specs.Keeps.{Kept, Stay, stay_all, kept_same}
 use Rattle.store.specs.Meant.{meant, filed, cause_of, RefusedSo}
-use Rattle.store.specs.Written.{Opened, Unopened, Wrote, Unwritten, Ended}
+use Rattle.store.specs.Written.{Opened, Wrote, Ended}
 use Rattle.store.proofs.Footing.{foot_open, foot_text, foot_end}
 use Rattle.store.proofs.Taking.{Took, took_by, full_by, open_step, text_step, end_step, finish_step}
 

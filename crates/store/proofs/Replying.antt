@@ -1,19 +1,17 @@
 -- What the store answers, once it let an order pass.
-use Rattle.std.proofs.Common.{◌≡◌, ℕ, Bool, true, false, cond, [], Some, None, Ok, Err, Option, Result, sym, refl, ap, ◌∙◌, subst, ap₂}
-use Rattle.fault.specs.declared.fault.Fault.{Fault}
+use Rattle.std.proofs.Common.{◌≡◌, Bool, false, cond, [], None, Ok, sym, ap, ◌∙◌, subst, ap₂}
 use Rattle.fault.specs.declared.store.StoreFault.{StoreFault}
 use Rattle.fault.specs.Answers.{answer}
 use Rattle.fault.specs.Kinds.{store_fault}
 use Rattle.orders.specs.declared.phase.Phase.{Phase}
 use Rattle.orders.specs.declared.phase.Phase.TheVariants.{Running}
 use Rattle.orders.specs.Phases.{phased}
-use Rattle.orders.specs.Steps.{after, verdict, value, answered, shown}
+use Rattle.orders.specs.Steps.{after, answered, shown}
 use Rattle.orders.specs.Bottom.{bottom_says}
 use Rattle.taker.specs.Paragraph.{Order, closes, Taker, finishes}
 use Rattle.store.specs.declared.store.Store.{Store}
 use Rattle.store.specs.Events.{Event}
 use Rattle.store.specs.Store.{at, store, store_tells, store_step}
-use Rattle.store.specs.Keeps.{Keeps}
 use Rattle.store.specs.Meant.{meant, cause_of, LetPass, RefusedSo}
 use Rattle.store.proofs.Taking.{Took}
 

@@ -1,5 +1,5 @@
 -- What accepted orders and full memory come to.
-use Rattle.std.proofs.Common.{◌≡◌, ℕ, ◌+◌, ◌<◌, ◌≤◌, min, Bool, true, false, not, ◌&&◌, eqb, ltb, leb, List, [], ◌∷◌, ◌++◌, length, take, drop, set, Some, None, vec_items, Option, sym, refl, ap, ◌∙◌, subst, ap₂, arith, length-set, le-ltb, lt-ltb, ne_eqb}
+use Rattle.std.proofs.Common.{◌≡◌, ℕ, ◌+◌, min, Bool, true, false, not, ◌&&◌, eqb, leb, List, [], ◌∷◌, ◌++◌, Some, None, vec_items, Option, sym, refl, ap, ◌∙◌, subst, arith, ne_eqb}
 use Rattle.fault.specs.declared.fault.Fault.{Fault}
 use Rattle.fault.specs.declared.cause.Cause.{Cause}
 use Rattle.fault.specs.declared.cause.Cause.TheVariants.{TooDeep, BarredByte, WrongNumber, GivenUp, Full}
@@ -7,27 +7,21 @@ use Rattle.fault.specs.declared.layer.Layer.TheVariants.{Store as Layered}
 use Rattle.fault.specs.declared.store.StoreFault.{StoreFault}
 use Rattle.fault.specs.Faults.{own, most}
 use Rattle.fault.specs.Kinds.{store_fault}
-use Rattle.orders.specs.declared.phase.Phase.{Phase}
-use Rattle.orders.specs.declared.phase.Phase.TheVariants.{Running, Closed, Shut}
+use Rattle.orders.specs.declared.phase.Phase.TheVariants.{Running, Shut}
 use Rattle.orders.specs.Meaning.{Permit}
 use Rattle.orders.specs.Permits.{fill, filled}
 use Rattle.orders.specs.Phases.{phased, gone}
 use Rattle.orders.specs.Steps.{after, verdict, place_on, if_closing}
 use Rattle.orders.specs.Bottom.{Step, takes, stops, Stirs, bottom_means}
-use Rattle.orders.proofs.Did.{Did}
 use Rattle.orders.proofs.Bottoms.{in_taken, in_barred}
 use Rattle.taker.specs.Paragraph.{Order, opens, texts, ends, gives_up, finishes, closes, counts, barred}
-use Rattle.store.specs.declared.record.Record.{Record}
 use Rattle.store.specs.declared.store.Store.{Store}
-use Rattle.store.specs.Events.{Event, opened, text, ended, if_room, holds_event, told_by, opens_in, texts_in, in_use}
+use Rattle.store.specs.Events.{Event, opened, text, ended, told_by}
 use Rattle.store.specs.Store.{Pages, at, unless, store, store_step, store_permit}
-use Rattle.store.specs.Contents.{Contents, contents, means_by, with_open, with_text, with_end, longer}
+use Rattle.store.specs.Contents.{Contents, contents, means_by}
 use Rattle.store.specs.Lawful.{unless_takes}
-use Rattle.store.specs.Foot.{nth, foot_opens, foot_texts}
-use Rattle.store.specs.Keeps.{Keeps, Kept, Stay, keeps_same}
-use Rattle.store.specs.Meant.{meant, filed, cause_of, RefusedSo}
-use Rattle.store.specs.Written.{Opened, Unopened, Wrote, Unwritten, Ended}
-use Rattle.store.proofs.Footing.{foot_open, foot_text, foot_end}
+use Rattle.store.specs.Keeps.{Keeps, Kept, keeps_same}
+use Rattle.store.specs.Meant.{meant, cause_of, RefusedSo}
 
 unless_none : (x : Bool) (c : Cause) (y : Step Pages Event) → cause_of (unless x c y) ≡ None → unless x c y ≡ y
 unless_none true c y e = let z : ◌≡◌ {A = ℕ} 0 1 = cc in absurd (omega arith)

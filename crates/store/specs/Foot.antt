@@ -1,11 +1,11 @@
 -- The foot of a store, by its records: how much of each it holds, and that this is permitted.
-use Rattle.std.specs.Prelude.{◌≡◌, ℕ, ◌+◌, ◌<◌, ◌≤◌, min, Bool, true, false, List, [], ◌∷◌, ◌++◌, length, take, drop, Some, None, Option, slice_index_or, refl}
-use Rattle.std.proofs.Common.{sym, ap, subst, ◌∙◌, append-nil, arith, length-take, eqb-true, eq-eqb}
+use Rattle.std.specs.Prelude.{◌≡◌, ℕ, ◌<◌, ◌≤◌, Bool, true, false, List, [], length, take, drop, Some, None, Option, slice_index_or, refl}
+use Rattle.std.proofs.Common.{sym, ap, ◌∙◌, arith, length-take, eqb-true, eq-eqb}
 use Rattle.std.proofs.lemmas.List.{take_more, drop_more}
 use Rattle.orders.specs.Permits.{Permitted}
 use Rattle.store.specs.declared.record.Record.{Record}
-use Rattle.store.specs.Events.{Event, opens_in, texts_in, holds, begun, done, being, told_by, tiled, ends_at, tiles_to, in_use}
-use Rattle.store.specs.Tiles.{Last, tiled_last, tiled_up, opens_append, texts_append, opens_done, texts_done, opens_begun, texts_begun, holds_all}
+use Rattle.store.specs.Events.{opens_in, texts_in, holds, begun, done, being, told_by, tiled, ends_at, tiles_to, in_use}
+use Rattle.store.specs.Tiles.{Last, tiled_last, opens_append, texts_append, opens_done, texts_done, opens_begun, texts_begun, holds_all}
 
 abbrev pub blank : Record
 blank = record { depth = 0; start = 0; length = 0 }

@@ -1,7 +1,7 @@
 -- A store keeps the law of paragraph takers.
-use Rattle.std.specs.Prelude.{◌≡◌, ℕ, ◌+◌, ◌≤◌, min, Bool, true, false, cond, not, ◌&&◌, ◌⊎◌, List, [], ◌∷◌, ◌++◌, length, Some, None, Option, ◌==◌, nat_le, nat_lt}
+use Rattle.std.specs.Prelude.{◌≡◌, ℕ, ◌+◌, ◌≤◌, min, Bool, true, false, not, ◌&&◌, ◌⊎◌, List, [], ◌∷◌, ◌++◌, length, Some, None, ◌==◌, nat_le, nat_lt}
 use Rattle.std.proofs.Math.Path.{refl}
-use Rattle.std.proofs.Common.{sym, ap, subst, ◌∙◌, inl, inr, arith, eqb-true}
+use Rattle.std.proofs.Common.{sym, ap, ◌∙◌, inl, inr, arith, eqb-true}
 use Rattle.fault.specs.declared.fault.Fault.{Fault}
 use Rattle.fault.specs.declared.cause.Cause.{Cause}
 use Rattle.fault.specs.declared.cause.Cause.TheVariants.{Full, NoParagraph, AfterClose, AfterShut, BarredByte, WrongNumber, TooDeep}
@@ -9,11 +9,10 @@ use Rattle.fault.specs.declared.layer.Layer.TheVariants.{Store}
 use Rattle.fault.specs.Faults.{own, leaves, most}
 use Rattle.orders.specs.declared.phase.Phase.{Phase}
 use Rattle.orders.specs.declared.phase.Phase.TheVariants.{Running, Closed, Shut}
-use Rattle.orders.specs.Meaning.{Added}
 use Rattle.orders.specs.Permits.{Filled, fill, filled}
-use Rattle.orders.specs.Steps.{place_on, verdict, reached, finished, mild}
+use Rattle.orders.specs.Steps.{place_on, verdict, finished, mild}
 use Rattle.orders.specs.Laws.{Hard}
-use Rattle.orders.specs.Bottom.{Step, takes, stops, state_on, state_after, stepped, run, run_on, bottom_adds, bottom_says}
+use Rattle.orders.specs.Bottom.{Step, takes, stops, state_on, state_after, stepped, run, run_on}
 use Rattle.orders.proofs.Bottoms.{bottom_sound}
 use Rattle.orders.proofs.Refusing.{refused, refused_stays}
 use Rattle.taker.specs.Paragraph.{Order, opens, texts, ends, gives_up, finishes, closes, counts, Taker, barred}

@@ -1,9 +1,8 @@
 -- What a store of the code means, and what it is asked.
-use Rattle.std.specs.Prelude.{◌≡◌, ℕ, min, List, length, take, Some, None, vec_items, vec_len, Option}
+use Rattle.std.specs.Prelude.{◌≡◌, take, Some, None, vec_items, Option}
 use Rattle.std.proofs.Common.{arith}
 use Rattle.fault.specs.declared.cause.Cause.{Cause}
 use Rattle.fault.specs.declared.store.StoreFault.{StoreFault}
-use Rattle.fault.specs.Faults.{most}
 use Rattle.fault.specs.Kinds.{store_fault}
 use Rattle.orders.specs.declared.phase.Phase.TheVariants.{Running}
 use Rattle.orders.specs.Phases.{phased}
@@ -15,7 +14,7 @@ use Rattle.store.specs.declared.store.Store.{Store}
 use Rattle.store.specs.declared.ask.Ask.{Ask}
 use Rattle.store.specs.declared.ask.Ask.TheVariants.{Open, Text, End, GiveUp, Finish}
 use Rattle.store.specs.Events.{Event, in_use}
-use Rattle.store.specs.Store.{Pages, store_step, store_means}
+use Rattle.store.specs.Store.{Pages, store_step}
 use Rattle.store.specs.Foot.{Filed, tiles_is}
 use Rattle.store.specs.Lawful.{store_lawful}
 use Rattle.store.specs.Contents.{contents, means_by}

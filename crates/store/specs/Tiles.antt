@@ -1,13 +1,12 @@
 -- Records that lie behind one another, and what they tell.
-use Rattle.std.specs.Prelude.{◌≡◌, ℕ, ◌+◌, ◌-◌, ◌<◌, ◌≤◌, min, Bool, true, false, cond, List, [], ◌∷◌, ◌++◌, length, take, drop, Some, None, Option, ◌==◌, nat_lt, slice_set, refl}
+use Rattle.std.specs.Prelude.{◌≡◌, ℕ, ◌+◌, ◌-◌, ◌≤◌, Bool, true, false, List, [], ◌∷◌, ◌++◌, length, take, drop, Some, None, Option, ◌==◌, nat_lt, slice_set, refl}
 use Rattle.std.proofs.Common.{sym, ap, ap₂, ◌∙◌, append-nil, append_assoc, arith, length-take, length-drop, eqb-true, eq-eqb, lt-ltb}
-use Rattle.std.specs.List.{flat_map}
-use Rattle.std.proofs.lemmas.List.{drop-set-add, take-set-le, length_push}
+use Rattle.std.proofs.lemmas.List.{drop-set-add, take-set-le}
 use Rattle.fault.specs.declared.fault.Fault.{Fault}
-use Rattle.orders.specs.Permits.{fill, filled, all_of, Permitted}
+use Rattle.orders.specs.Permits.{fill, filled, all_of}
 use Rattle.orders.specs.Lists.{each}
 use Rattle.store.specs.declared.record.Record.{Record}
-use Rattle.store.specs.Events.{Event, opened, text, ended, opens_in, texts_in, if_room, holds, text_of, begun, done, being, told_by, go_on, tiled, in_use}
+use Rattle.store.specs.Events.{Event, opened, text, ended, opens_in, texts_in, if_room, holds, text_of, begun, done, go_on, tiled}
 
 -- a record in front
 pub record First (a : ℕ) (r : Record) (rs : List Record) (u : ℕ) : Type 0 where

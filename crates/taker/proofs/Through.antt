@@ -4,7 +4,7 @@ use Rattle.std.proofs.lemmas.List.{take_more}
 use Rattle.fault.specs.declared.fault.Fault.{Fault}
 use Rattle.fault.specs.Answers.{or_else}
 use Rattle.orders.specs.Steps.{after, verdict}
-use Rattle.orders.specs.Lists.{each, sent, sent_on, sent_fault}
+use Rattle.orders.specs.Lists.{sent, sent_on, sent_fault}
 use Rattle.orders.proofs.Appending.{sent_append, sent_fault_append}
 use Rattle.taker.specs.Paragraph.{Order, texts, Taker, text_orders}
 use Rattle.taker.specs.Law.{Lawful, LawfulThrough}

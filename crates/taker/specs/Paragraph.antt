@@ -1,5 +1,5 @@
 -- Paragraph takers: takers of five orders.
-use Rattle.std.specs.Prelude.{ℕ, Bool, true, false, ◌||◌, List, [], ◌∷◌, ◌==◌}
+use Rattle.std.specs.Prelude.{ℕ, Bool, true, false, ◌||◌, List, [], ◌==◌}
 use Rattle.orders.specs.Meaning.{Kind, Meaning}
 use Rattle.orders.specs.Lists.{each}
 

@@ -8,7 +8,7 @@ ghost use Rattle.folding.specs.Incremental.{break_among, first_among, break_plac
 pub(crate) fn is_two_dashes(line: &[u8]) -> bool
     ensures { result ≡ bytes_eq line.now dashes }
 {
-    line == &[0x2D, 0x2D]
+    line == [0x2D, 0x2D].as_slice()
 }
 
 // Whether a piece that begins with the byte is stuffed.

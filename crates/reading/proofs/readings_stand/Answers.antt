@@ -12,7 +12,7 @@ use Rattle.reading.proofs.readings_stand.Goals as goal
 
 pub returns : goal.returns
 returns c = record {
-  in-turn = bytes_in_turn;
+  in_turn = bytes_in_turn;
   kept = contents_kept;
   lines = lines_read;
   only = only_lines_read;

@@ -1,4 +1,4 @@
-use Rattle.std.proofs.Common.{◌≡◌, ℕ, List, [], get_or, drop, sym, refl, ap, ◌∙◌, subst, arith}
+use Rattle.std.proofs.Common.{ℕ, List, [], get_or, sym, ◌∙◌, subst, arith}
 use Rattle.std.proofs.lemmas.List.{drop_more, drop_all}
 use Rattle.fault.specs.Kinds.{undo_fault}
 use Rattle.carry.specs.Back.{meant}
@@ -16,7 +16,7 @@ returns-in-Some g c =
     let m = g.S.ByteSink.means c.args.sink.now in
     let n = g.S.ByteSink.means c.loop-i.sink in
     let h = subst (λ (r : List ℕ). Rest u v m n i xs r) (drop_more xs i 0 c.loop-i-test.true) c.loop-i.invariant.0 in
-    let d = halted u v m n i xs b _ h (meant undo_fault g.SinkFault.Refusal.means c.in-Some.stop) (sym c.in-Some.ensures.stop) in
+    let d = halted u v m n i xs b _ h (meant undo_fault g.S.SinkFault.Refusal.means c.in-Some.stop) (sym c.in-Some.ensures.stop) in
     record {
       count = d.count;
       stop = d.stop;
@@ -35,7 +35,7 @@ loop-i-preserved g c =
     let m = g.S.ByteSink.means c.args.sink.now in
     let n = g.S.ByteSink.means c.loop-i.sink in
     let h = subst (λ (r : List ℕ). Rest u v m n i xs r) (drop_more xs i 0 c.loop-i-test.true) c.loop-i.invariant.0 in
-    let d = went_through u v m n i xs b _ h (sym c.in-default.ensures.stop) in (
+    let d = went_through u v m n i xs b _ h (sym c.in_default.ensures.stop) in (
       rw (c.pass.ensures.undoing, c.pass.ensures.sink) d,
       behind_on (v.takes [] b) n _ _ _ _ c.pass.ensures.sink c.loop-i.invariant.1 c.pass.ensures.behind,
     )

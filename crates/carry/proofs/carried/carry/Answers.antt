@@ -1,15 +1,12 @@
-use Rattle.std.proofs.Common.{◌≡◌, ℕ, Bool, true, false, List, length, take, drop, is_ok, Some, None, Ok, Err, vec_items, vec_len, Option, Result, Vec, sym, refl, ap, ◌∙◌, ap₂, arith, length-take-le}
+use Rattle.std.proofs.Common.{◌≡◌, ℕ, true, List, length, take, drop, Some, None, vec_items, Vec, sym, ap, ◌∙◌, ap₂, arith, length-take-le}
 use native.Mathlib.Nat.{sub-zero}
 use Rattle.std.specs.declared.alloc.Global.{Global}
-use Rattle.fault.specs.declared.fault.Fault.{Fault}
 use Rattle.fault.specs.Answers.{told, answer}
 use Rattle.fault.specs.Kinds.{end_fault, stage_fault, undo_fault}
 use Rattle.orders.specs.declared.phase.Phase.TheVariants.{Running}
-use Rattle.orders.specs.Permits.{Filled}
 use Rattle.orders.specs.Phases.{phased}
 use Rattle.orders.specs.Steps.{shown}
 use Rattle.orders.specs.Lists.{reach}
-use Rattle.undo.specs.Undoing.{Undoing}
 use Rattle.sink.specs.Sink.{Sink, down}
 use Rattle.layer.specs.Layer.{layer_means}
 use Rattle.ends.specs.Ends.{memory_means, compare_means}
@@ -34,9 +31,9 @@ returns c =
     let body = c.args.body.now in
     let r = c.into_memory-memory.result in
     let s1 = c.send-sent.new.sink in
-    let made = c.new_stage.ensures.made in
+    let made = c.new-stage.ensures.made in
     let new = c.new.ensures in
-    let m0 : means c.new_stage.result ≡ new_stage v = ap means made ∙ (λ i. layer_means dot (memory_means (new.0 i) (new.1 i) (phased end_fault (new.2 i))) Start Running 0) in
+    let m0 : means c.new-stage.result ≡ new_stage v = ap means made ∙ (λ i. layer_means dot (memory_means (new.0 i) (new.1 i) (phased end_fault (new.2 i))) Start Running 0) in
     let mem : r.0 ≡ s1.below.memory = c.into_memory-memory.ensures.memory ∙ ap (λ (e : MemoryEnd). e.memory) c.into_below.ensures in
     let len : r.1 ≡ s1.below.len = c.into_memory-memory.ensures.len ∙ ap (λ (e : MemoryEnd). e.len) c.into_below.ensures in
     let foot : take r.1 (vec_items r.0) ≡ (means s1).foot = λ i. take (len i) (vec_items (mem i)) in
@@ -47,7 +44,7 @@ returns c =
     let in_it = c.into_memory-memory.ensures.within in
     let whole : length (take r.1 (vec_items r.0)) ≡ r.1 = length-take-le r.1 (vec_items r.0) (omega arith) in
     let long : length (means s1).foot ≡ r.1 = ap length (sym foot) ∙ whole in
-    let first : c.new_stage.result.below.memory ≡ v = ap (λ (s : Dot MemoryEnd). s.below.memory) made ∙ new.0 in
+    let first : c.new-stage.result.below.memory ≡ v = ap (λ (s : Dot MemoryEnd). s.below.memory) made ∙ new.0 in
     let cut : ℕ → Vec ℕ Global → List ℕ = λ n x. drop n (vec_items x) in
     record {
       wire = wire;

@@ -1,8 +1,8 @@
-use Rattle.std.proofs.Common.{◌≡◌, None, sym, refl, ap, ◌∙◌, ap₂}
+use Rattle.std.proofs.Common.{sym, ap, ◌∙◌, ap₂}
 use Rattle.fault.specs.Answers.{answer, via}
 use Rattle.orders.specs.Steps.{shown, after, verdict}
 use Rattle.orders.proofs.Growing.{behind_then}
-use Rattle.sink.specs.Sink.{Sink, close, down}
+use Rattle.sink.specs.Sink.{Sink, close}
 use Rattle.carry.proofs.Sending.{cut_short, then_closed, whole_fault, whole_foot}
 use Rattle.carry.proofs.send.send.Goals as goal
 
@@ -10,7 +10,7 @@ pub returns-in-Some : goal.returns-in-Some
 returns-in-Some g c =
     let m = g.S.ByteSink.means c.args.sink.now in
     let bs = c.args.text.now in
-    let fl = g.SinkFault.Refusal.means in
+    let fl = g.S.SinkFault.Refusal.means in
     let d = cut_short m bs (fl c.in-Some.f) (sym c.feed-refused.ensures.fault ∙ ap (via fl) c.in-Some.is) in
     let e = c.feed-refused.ensures.changed ∙ sym d.1 in
     record {
@@ -24,8 +24,8 @@ pub returns : goal.returns
 returns g c =
     let m = g.S.ByteSink.means c.args.sink.now in
     let bs = c.args.text.now in
-    let fl = g.SinkFault.Refusal.means in
-    let d = then_closed m bs (sym c.feed-refused.ensures.fault ∙ ap (via fl) c.in-default.is) in
+    let fl = g.S.SinkFault.Refusal.means in
+    let d = then_closed m bs (sym c.feed-refused.ensures.fault ∙ ap (via fl) c.in_default.is) in
     let n = c.feed-refused.ensures.changed in
     let e = c.close.ensures.changed ∙ ap (λ (x : Sink). after x close) n ∙ sym d.1 in
     record {

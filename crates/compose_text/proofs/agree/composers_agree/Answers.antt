@@ -1,9 +1,7 @@
-use Rattle.std.proofs.Common.{◌≡◌, ℕ, Bool, sym, ap, ◌∙◌, subst}
+use Rattle.std.proofs.Common.{Bool, sym, ap, ◌∙◌, subst}
 use Rattle.fault.specs.declared.fault.Fault.{Fault}
 use Rattle.orders.specs.declared.phase.Phase.{Phase}
 use Rattle.orders.specs.Alike.{Alike}
-use Rattle.sink.specs.Sink.{Sink}
-use Rattle.sink.specs.Same.{Matched}
 use Rattle.layer.specs.Layer.{layer_means}
 use Rattle.layer.proofs.Alike.{layer_alike}
 use Rattle.history.proofs.Chopping.{chopping_harmless}

@@ -21,7 +21,7 @@ module _ (a b p s e : Text) where
 
 pub returns-in_err-send_repeated : goal.returns-in_err-send_repeated
 returns-in_err-send_repeated g c =
-    let r = err_from_is_err_and c.from-residual.result c.from-residual.ensures.1 in
+    let r = err_from_is_err_and c.from_residual.result c.from_residual.ensures.1 in
     let d = c.args.depth in
     let p = c.args.piece.now in
     let s = replicate c.args.spaces space in
@@ -30,7 +30,7 @@ returns-in_err-send_repeated g c =
 
 pub returns-in_err-send_repeated-2 : goal.returns-in_err-send_repeated-2
 returns-in_err-send_repeated-2 g c =
-    let r = err_from_is_err_and c.from-residual-in_err-send_repeated-2.result c.from-residual-in_err-send_repeated-2.ensures.1 in
+    let r = err_from_is_err_and c.from_residual-in_err-send_repeated-2.result c.from_residual-in_err-send_repeated-2.ensures.1 in
     let d = c.args.depth in
     let p = c.args.piece.now in
     let s = replicate c.args.spaces space in
@@ -41,7 +41,7 @@ returns-in_err-send_repeated-2 g c =
 
 pub returns-in_err-send_bytes : goal.returns-in_err-send_bytes
 returns-in_err-send_bytes g c =
-    let r = err_from_is_err_and c.from-residual-in_err-send_bytes.result c.from-residual-in_err-send_bytes.ensures.1 in
+    let r = err_from_is_err_and c.from_residual-in_err-send_bytes.result c.from_residual-in_err-send_bytes.ensures.1 in
     let d = c.args.depth in
     let p = c.args.piece.now in
     let s = replicate c.args.spaces space in
@@ -53,7 +53,7 @@ returns-in_err-send_bytes g c =
 
 pub returns-in_err-send_repeated-3 : goal.returns-in_err-send_repeated-3
 returns-in_err-send_repeated-3 g c =
-    let r = err_from_is_err_and c.from-residual-in_err-send_repeated-3.result c.from-residual-in_err-send_repeated-3.ensures.1 in
+    let r = err_from_is_err_and c.from_residual-in_err-send_repeated-3.result c.from_residual-in_err-send_repeated-3.ensures.1 in
     let d = c.args.depth in
     let p = c.args.piece.now in
     let s = replicate c.args.spaces space in

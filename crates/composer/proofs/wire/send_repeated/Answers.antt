@@ -6,7 +6,7 @@ use Rattle.composer.proofs.wire.send_repeated.Goals as goal
 
 pub returns-in_err-send_byte : goal.returns-in_err-send_byte
 returns-in_err-send_byte g c =
-    let p = err_from_is_err_and c.from-residual.result c.from-residual.ensures.1 in
+    let p = err_from_is_err_and c.from_residual.result c.from_residual.ensures.1 in
     let b = c.args.b in
     let i = c.loop-i.i in
     let left = replicate (c.args.times - (i + 1)) b in

@@ -1,4 +1,4 @@
-use Rattle.std.proofs.Common.{sym, rules}
+use Rattle.std.proofs.Common.{rules}
 use Rattle.sink.specs.Sink.{put}
 use Rattle.orders.proofs.Growing.{behind_then}
 use Rattle.dot.proofs.dot.send.Goals as goal

@@ -1,11 +1,9 @@
-use Rattle.std.proofs.Common.{◌≡◌, ℕ, List, Option, sym, refl, ap, ◌∙◌, subst}
+use Rattle.std.proofs.Common.{◌≡◌, sym, ap, ◌∙◌, subst}
 use Rattle.fault.specs.Answers.{told, via}
 use Rattle.fault.specs.Kinds.{composer_fault, reader_fault}
 use Rattle.undo.specs.Undoing.{Undoing}
 use Rattle.sink.specs.Sink.{Sink}
 use Rattle.sink.specs.Same.{Matched}
-use Rattle.taker.specs.Paragraph.{Taker}
-use Rattle.taker.specs.Mail.{Paragraph}
 use Rattle.ends.specs.declared.memory.MemoryEnd.{MemoryEnd}
 use Rattle.ends.specs.Ends.{held}
 use Rattle.dot.specs.declared.dot.Dot.{Dot}

@@ -1,9 +1,8 @@
-use Rattle.std.proofs.Common.{◌≡◌, ℕ, true, List, [], ◌∷◌, ◌++◌, Ok, Result, sym, refl, ap, ◌∙◌, subst, append_assoc}
+use Rattle.std.proofs.Common.{ℕ, List, [], ◌∷◌, ◌++◌, Result, sym, ap, ◌∙◌, subst, append_assoc}
 use Rattle.fault.specs.declared.fault.Fault.{Fault}
 use Rattle.fault.specs.Answers.{told}
 use Rattle.taker.specs.Paragraph.{Order, ends, finishes}
 use Rattle.history.specs.History.{to_end, to_finish, Step, asked, Reached, asks}
-use Rattle.history.specs.Orders.{orders}
 use Rattle.history.specs.Settled.{finish_in, has_finished}
 use Rattle.exchange.proofs.Givens.{orders_append}
 use Rattle.exchange.proofs.exchange.write.Goals as goal
@@ -14,8 +13,8 @@ returns g c =
     let x = c.args.taker.now in
     let y = c.end.new.self in
     let w = c.send_mail.new.taker in
-    let e = told g.TakerFault.Refusal.means c.end.result in
-    let z = told g.TakerFault.Refusal.means c.send_mail.result.finish in
+    let e = told g.T.TakerFault.Refusal.means c.end.result in
+    let z = told g.T.TakerFault.Refusal.means c.send_mail.result.finish in
     let p = c.send_mail.ensures.given in
     let one : Step = asked (to_end 0) e in
     record {

@@ -1,8 +1,7 @@
-use Rattle.std.proofs.Common.{◌≡◌, ℕ, ◌-◌, ◌≤◌, List, [], ◌∷◌, ◌++◌, length, take, drop, Option, sym, refl, ap, ◌∙◌, subst, ap₂, arith, take_all, rules}
+use Rattle.std.proofs.Common.{◌≡◌, ℕ, ◌-◌, ◌≤◌, List, [], ◌∷◌, ◌++◌, length, take, drop, Option, sym, refl, ap, ◌∙◌, subst, arith, take_all, rules}
 use Rattle.fault.specs.declared.fault.Fault.{Fault}
 use Rattle.fault.specs.Answers.{via, or_else}
 use Rattle.fault.specs.Kinds.{reader_fault}
-use Rattle.reader.specs.Reading.{Reading}
 use Rattle.reader.specs.Readers.{reading_of}
 use Rattle.conversation.specs.Reads.{StepRead, fed, chunk_orders, Reads, begun, feeds, fed_bytes}
 use Rattle.conversation.specs.Reads as reads

@@ -1,4 +1,4 @@
-use Rattle.std.proofs.Common.{ℕ, ◌-◌, ◌≤◌, length, take}
+use Rattle.std.proofs.Common.{◌-◌, ◌≤◌, length, take}
 use Rattle.fault.specs.Answers.{via}
 use Rattle.fault.specs.Kinds.{reader_fault}
 use Rattle.reader.specs.Readers.{reading_of}

@@ -10,7 +10,7 @@ use Rattle.exchange.proofs.sending.feed_pieces.Goals as goal
 pub loop-at-preserved : goal.loop-at-preserved
 loop-at-preserved g c =
     let means = g.T.ParagraphTaker.means in
-    let tells = g.TakerFault.Refusal.means in
+    let tells = g.T.TakerFault.Refusal.means in
     let a = c.args.taker.now in
     let b = c.loop-at.taker in
     let d = c.feed-fault.new.taker in
@@ -33,6 +33,6 @@ returns g c =
     let xs = c.args.text.now in
     let all : take c.loop-at.at xs ≡ xs = take_all c.loop-at.at xs c.loop-at-test.false in
     record {
-      given = subst (λ (l : List ℕ). Given (means c.args.taker.now) (means c.loop-at.taker) (text_orders l) (via g.TakerFault.Refusal.means c.loop-at.first)) all c.loop-at.invariant.1;
+      given = subst (λ (l : List ℕ). Given (means c.args.taker.now) (means c.loop-at.taker) (text_orders l) (via g.T.TakerFault.Refusal.means c.loop-at.first)) all c.loop-at.invariant.1;
       kept = c.loop-at.invariant.2;
     }

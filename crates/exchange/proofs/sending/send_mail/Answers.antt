@@ -1,4 +1,4 @@
-use Rattle.std.proofs.Common.{◌≡◌, List, [], ◌∷◌, ◌++◌, ap}
+use Rattle.std.proofs.Common.{List, [], ◌∷◌, ◌++◌, ap}
 use Rattle.fault.specs.Answers.{told}
 use Rattle.taker.specs.Paragraph.{Order, finishes}
 use Rattle.history.specs.History.{to_finish, asks}
@@ -9,7 +9,7 @@ returns g c =
     let x = c.args.taker.now in
     let y = c.send_paragraphs-refused.new.taker in
     let z = c.finish-finish.new.self in
-    let r = told g.TakerFault.Refusal.means c.finish-finish.result in
+    let r = told g.T.TakerFault.Refusal.means c.finish-finish.result in
     let p = c.send_paragraphs-refused.ensures.given in
     record {
       given = record {

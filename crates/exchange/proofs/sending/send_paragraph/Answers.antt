@@ -1,7 +1,7 @@
 use Rattle.std.proofs.Common.{◌≡◌, ℕ, List, [], ◌∷◌, ◌++◌, Option, sym, ap, ◌∙◌, subst, ap₂}
 use Rattle.fault.specs.declared.fault.Fault.{Fault}
 use Rattle.fault.specs.Answers.{via, told, or_else}
-use Rattle.taker.specs.Paragraph.{Order, opens, ends, text_orders}
+use Rattle.taker.specs.Paragraph.{opens, ends, text_orders}
 use Rattle.history.specs.History.{to_open, to_end}
 use Rattle.exchange.specs.Mail.{part_of, paragraph_orders}
 use Rattle.exchange.specs.Given.{refusal_in, Given}
@@ -12,7 +12,7 @@ use Rattle.exchange.proofs.sending.send_paragraph.Goals as goal
 pub returns : goal.returns
 returns g c =
     let means = g.T.ParagraphTaker.means in
-    let tells = g.TakerFault.Refusal.means in
+    let tells = g.T.TakerFault.Refusal.means in
     let lawful = g.T.ParagraphTaker.lawful in
     let x = c.args.taker.now in
     let y = c.open-opened.new.self in

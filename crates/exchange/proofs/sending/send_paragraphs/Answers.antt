@@ -17,7 +17,7 @@ pub loop-i-preserved : goal.loop-i-preserved
 unfolding nowhere
 loop-i-preserved g c =
     let means = g.T.ParagraphTaker.means in
-    let tells = g.TakerFault.Refusal.means in
+    let tells = g.T.TakerFault.Refusal.means in
     let a = c.args.taker.now in
     let b = c.loop-i.taker in
     let d = c.send_paragraph-refused.new.taker in
@@ -39,6 +39,6 @@ returns g c =
     let means = g.T.ParagraphTaker.means in
     let all = take_all c.loop-i.i c.args.records.now c.loop-i-test.false in
     record {
-      given = subst (λ (rs : List Record). Given (means c.args.taker.now) (means c.loop-i.taker) (paragraphs_orders c.args.text.now 1 rs) (via g.TakerFault.Refusal.means c.loop-i.first)) all c.loop-i.invariant.0;
+      given = subst (λ (rs : List Record). Given (means c.args.taker.now) (means c.loop-i.taker) (paragraphs_orders c.args.text.now 1 rs) (via g.T.TakerFault.Refusal.means c.loop-i.first)) all c.loop-i.invariant.0;
       kept = c.loop-i.invariant.1;
     }

@@ -1,4 +1,4 @@
-use Rattle.std.proofs.Common.{ℕ, take}
+use Rattle.std.proofs.Common.{take}
 use Rattle.fault.specs.Answers.{via}
 use Rattle.exchange.specs.Mail.{paragraphs_orders}
 use Rattle.exchange.specs.Given.{Given}
@@ -6,5 +6,5 @@ use Rattle.exchange.proofs.sending.send_paragraphs.Given as goal
 
 abbrev pub invariant-loop-i : goal.invariant-loop-i
 invariant-loop-i g l =
-    Given (g.T.ParagraphTaker.means l.initial.taker) (g.T.ParagraphTaker.means l.taker) (paragraphs_orders l.text 1 (take l.i l.records)) (via g.TakerFault.Refusal.means l.first)
+    Given (g.T.ParagraphTaker.means l.initial.taker) (g.T.ParagraphTaker.means l.taker) (paragraphs_orders l.text 1 (take l.i l.records)) (via g.T.TakerFault.Refusal.means l.first)
     × g.T.ParagraphTaker.keeps l.initial.taker l.taker

@@ -13,13 +13,16 @@ returns-then-not-lacks_memory c =
     let wire : take (r.len - 0) c.as_slice.result.now ≡ take r.len (vec_items r.memory) = ap (λ (n : ℕ). take n c.as_slice.result.now) (sub-zero r.len) ∙ ap (take r.len) c.as_slice.ensures.value in
     let long : length (take r.len (vec_items r.memory)) ≡ r.len = length-take-le r.len (vec_items r.memory) (omega arith) in
     record {
-      memory = c.in_ok-memory.memory;
-      composed = c.compose-composed.ensures.composed;
       within = in_it;
-      enough = sym c.if-not-lacks_memory.ensures;
-      paragraphs = report.paragraphs;
-      lines = report.lines;
-      bytes = report.bytes ∙ ap length wire ∙ long;
-      widest = report.widest ∙ ap (widest 0 0) wire;
-      unfinished = report.unfinished;
+      mailed = record {
+        memory = c.in_ok-memory.memory;
+        composed = c.compose-composed.ensures.composed;
+        within = in_it;
+        enough = sym c.if-not-lacks_memory.ensures;
+        paragraphs = report.paragraphs;
+        lines = report.lines;
+        bytes = report.bytes ∙ ap length wire ∙ long;
+        widest = report.widest ∙ ap (widest 0 0) wire;
+        unfinished = report.unfinished;
+      };
     }

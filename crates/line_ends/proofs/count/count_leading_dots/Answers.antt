@@ -1,4 +1,4 @@
-use Rattle.std.proofs.Common.{◌≡◌, ℕ, ◌&&◌, eqb, get_or, ap, ◌∙◌, arith}
+use Rattle.std.proofs.Common.{◌&&◌, eqb, get_or, ap, ◌∙◌, arith}
 use Rattle.std.proofs.lemmas.List.{at_drop_all}
 use Rattle.line_ends.specs.LineEnds.{leading_dots, one_if}
 use Rattle.line_ends.proofs.Counting.{one_at_most, dots_more}

@@ -1,6 +1,6 @@
-use Rattle.std.proofs.Common.{◌≡◌, ℕ, ◌+◌, ◌≤◌, get_or, drop, sym, ap, ◌∙◌, arith}
+use Rattle.std.proofs.Common.{ℕ, ◌+◌, get_or, drop, sym, ap, ◌∙◌, arith}
 use Rattle.std.proofs.lemmas.List.{at_drop_more, at_drop_all}
-use Rattle.line_ends.specs.LineEnds.{on_byte, widest}
+use Rattle.line_ends.specs.LineEnds.{widest}
 use Rattle.line_ends.proofs.Counting.{width_more}
 use Rattle.line_ends.proofs.count.widest_line.Goals as goal
 

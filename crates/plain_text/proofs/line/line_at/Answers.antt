@@ -37,7 +37,7 @@ returns-in-Each c =
     let d = c.in-Each.depth in
     let is : paragraph_of c.args.depths (between c.args.from end t) ≡ record { depth = d; text = between c.args.from end t } = ap (λ (ds : Depths). paragraph_of ds (between c.args.from end t)) c.in-Each.is in
     record {
-      first = first_of t c.args.from c.behind_feed-next.result end c.args.depths _ c.requires c.behind_feed-next.ensures.rest c.text_end-end.ensures.text is;
+      first = first_of t c.args.from c.behind_feed-next.result end c.args.depths _ c.requires c.behind_feed-next.ensures.rest (c.text_end-end.ensures.text c.line_feed-feed.ensures.feed) is;
       start = c.text_end-end.ensures.behind;
       end = omega arith;
       onward = c.behind_feed-next.ensures.onward;
@@ -52,9 +52,9 @@ returns-in-Marks c =
     let s = c.behind_space.result in
     let d = c.capped.result in
     let is : paragraph_of c.args.depths (between from end t) ≡ record { depth = d; text = between s end t } =
-    ap (λ (ds : Depths). paragraph_of ds (between from end t)) c.in-Marks.is ∙ marked t from c.behind_marks-marks.result s end d c.behind_marks-marks.ensures.marks c.behind_space.ensures.text c.capped.ensures in
+    ap (λ (ds : Depths). paragraph_of ds (between from end t)) c.in-Marks.is ∙ marked t from c.behind_marks-marks.result s end d c.behind_marks-marks.ensures.count c.behind_space.ensures.text c.capped.ensures in
     record {
-      first = first_of t from c.behind_feed-next.result end c.args.depths _ c.requires c.behind_feed-next.ensures.rest c.text_end-end.ensures.text is;
+      first = first_of t from c.behind_feed-next.result end c.args.depths _ c.requires c.behind_feed-next.ensures.rest (c.text_end-end.ensures.text c.line_feed-feed.ensures.feed) is;
       start = c.behind_space.ensures.within;
       end = omega arith;
       onward = c.behind_feed-next.ensures.onward;

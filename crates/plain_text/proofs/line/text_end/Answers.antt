@@ -29,7 +29,7 @@ module _ (t : Text) (from feed : ℕ) (at : feed ≡ from + before_feed (drop fr
 
 pub returns-then-text-feed-eq13 : goal.returns-then-text-feed-eq13
 returns-then-text-feed-eq13 c = record {
-  text = crlf c.args.text.now c.args.from c.args.feed c.requires.first c.if-feed-text.true c.if-feed-from.true c.if-text-feed-eq13.true;
+  text = λ at. crlf c.args.text.now c.args.from c.args.feed at c.if-feed-text.true c.if-feed-from.true c.if-text-feed-eq13.true;
   behind = omega arith;
   within = omega arith;
 }
@@ -39,9 +39,8 @@ returns c =
     let t = c.args.text.now in
     let from = c.args.from in
     let feed = c.args.feed in
-    let at = c.requires.first in
     record {
-      text = elim c.else-feed-text.branch [
+      text = λ at. elim c.else-feed-text.branch [
         | else-feed-text-via-then-feed-text+then-feed-from+else-text-feed-eq13 w ↦ lf t from feed at w.if-feed-text.true (λ k. w.if-text-feed-eq13.false)
         | else-feed-text-via-then-feed-text+else-feed-from w ↦ lf t from feed at w.if-feed-text.true (λ k e. omega (arith, w.if-feed-from.false))
         | else-feed-text-via-else-feed-text w ↦ unended t from feed at w.if-feed-text.false

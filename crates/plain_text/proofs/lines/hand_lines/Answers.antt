@@ -20,8 +20,10 @@ returns-in-Err g c =
     let p : Paragraph = record { depth = line.depth; text = between line.start line.end t } in
     let others = paragraphs_of c.args.depths (drop line.next t) in
     let h = c.in-Err.ensures in
+    let all = through_refused (means a) (means b) (means d) ps _ p others c.loop-at.at c.loop-at.paragraphs c.loop-at.lines c.loop-at.invariant.0 c.line_at-depth.ensures.first (g.T.TakerFault.Refusal.means c.in-Err.f) h.whole.steps h.whole.so h.whole.grows in
     record {
-      handed = through_refused (means a) (means b) (means d) ps _ p others c.loop-at.at c.loop-at.paragraphs c.loop-at.lines c.loop-at.invariant.0 c.line_at-depth.ensures.first (g.TakerFault.Refusal.means c.in-Err.f) h.handed.steps h.handed.so h.handed.grows;
+      grown = (all.steps, all.grows);
+      handed = all;
       cut = cut_as_stated t;
       kept = g.T.ParagraphTaker.chained a b d c.loop-at.invariant.1 h.kept;
     }
@@ -38,7 +40,7 @@ loop-at-preserved g c =
     let p : Paragraph = record { depth = line.depth; text = between line.start line.end t } in
     let others = paragraphs_of c.args.depths (drop line.next t) in
     let h = c.in-Ok.ensures in
-    let more = through_more (means a) (means b) (means d) ps _ p others c.loop-at.at c.loop-at.paragraphs c.loop-at.lines c.loop-at.invariant.0 c.line_at-depth.ensures.first (record { number = h.handed.so.0; lines = c.in-Ok.n }) line.next c.line_at-depth.ensures.onward (subst (Grows (means b) (means d)) h.handed.so.1 h.handed.grows) in (
+    let more = through_more (means a) (means b) (means d) ps _ p others c.loop-at.at c.loop-at.paragraphs c.loop-at.lines c.loop-at.invariant.0 c.line_at-depth.ensures.first (record { number = h.whole.so.0; lines = c.in-Ok.n }) line.next c.line_at-depth.ensures.onward (subst (Grows (means b) (means d)) h.whole.so.1 h.whole.grows) in (
       subst (Through (means a) (means d) ps others line.next (c.loop-at.paragraphs + 1)) (sym c.saturating_add-lines.ensures) more,
       g.T.ParagraphTaker.chained a b d c.loop-at.invariant.1 h.kept,
     )
@@ -49,8 +51,10 @@ returns g c =
     let t = c.args.text.now in
     let left = paragraphs_of c.args.depths (drop c.loop-at.at t) in
     let none : left ≡ [] = ap (paragraphs_of c.args.depths) (drop_all c.loop-at.at t c.loop-at-test.false) in
+    let all = through_all (means c.args.taker.now) (means c.loop-at.taker) (paragraphs_of c.args.depths t) left c.loop-at.at c.loop-at.paragraphs c.loop-at.lines c.loop-at.invariant.0 none in
     record {
-      handed = through_all (means c.args.taker.now) (means c.loop-at.taker) (paragraphs_of c.args.depths t) left c.loop-at.at c.loop-at.paragraphs c.loop-at.lines c.loop-at.invariant.0 none;
+      grown = (all.steps, all.grows);
+      handed = all;
       cut = cut_as_stated t;
       kept = c.loop-at.invariant.1;
     }

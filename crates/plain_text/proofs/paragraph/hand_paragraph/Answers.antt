@@ -1,14 +1,16 @@
 use Rattle.std.proofs.Common.{◌≡◌, ℕ, [], ◌∷◌, length, None, Ok, Err, Option, Result, sym, refl, ap, ◌∙◌, subst}
 use Rattle.fault.specs.declared.fault.Fault.{Fault}
 use Rattle.fault.specs.Answers.{told, via, answer}
-use Rattle.orders.specs.Steps.{answered, value}
+use Rattle.orders.specs.Steps.{value}
 use Rattle.orders.specs.Lists.{sent_fault}
 use Rattle.taker.specs.Paragraph.{gives_up, text_orders}
 use Rattle.taker.specs.Mail.{Paragraph}
 use Rattle.taker.specs.Law.{LawfulThrough}
 use Rattle.history.specs.History.{asked, fed, to_open, to_end, to_give_up, asks, feeds}
+use Rattle.plain_text.specs.Grows.{GrowsBy}
 use Rattle.plain_text.specs.Handing.{HandedOne, Refused, at_open, in_text, at_end}
 use Rattle.plain_text.proofs.Counts.{all_counted}
+use Rattle.plain_text.proofs.Growing.{handed_of}
 use Rattle.plain_text.proofs.paragraph.hand_paragraph.Goals as goal
 
 -- the end is accepted, or refused
@@ -20,12 +22,16 @@ pub returns-in-Err : goal.returns-in-Err
 returns-in-Err g c =
     let lawful = g.T.ParagraphTaker.lawful in
     let e = c.in-Err.ensures in
+    let p : Paragraph = record { depth = c.args.depth; text = c.args.text.now } in
+    let means = g.T.ParagraphTaker.means in
+    let w : GrowsBy (means c.args.taker.now) (means c.«open».new.taker) (HandedOne p (Err (g.T.TakerFault.Refusal.means c.in-Err.f))) = record {
+      steps = asked (to_open c.args.depth) (Err (g.T.TakerFault.Refusal.means c.in-Err.f)) ∷ [];
+      grows = λ s h r. asks r (to_open c.args.depth) _ e.answered e.changed (lawful c.«open».new.taker);
+      so = at_open;
+    } in
     record {
-      handed = record {
-        steps = asked (to_open c.args.depth) (Err (g.TakerFault.Refusal.means c.in-Err.f)) ∷ [];
-        grows = λ s h r. asks r (to_open c.args.depth) _ e.answered e.changed (lawful c.«open».new.taker);
-        so = at_open;
-      };
+      handed = handed_of _ _ p _ w;
+      whole = w;
       kept = e.kept;
     }
 
@@ -40,16 +46,19 @@ returns-in-None g c =
     let k = c.in-Ok.«open».number in
     let o = c.in-Ok.ensures in
     let f = c.feed-refused.ensures in
-    let none : sent_fault m (text_orders bs) ≡ None = sym f.fault ∙ ap (via g.TakerFault.Refusal.means) c.in-None.is in
+    let none : sent_fault m (text_orders bs) ≡ None = sym f.fault ∙ ap (via g.T.TakerFault.Refusal.means) c.in-None.is in
     let all = all_counted m bs none in
-    let r = told g.TakerFault.Refusal.means c.end.result in
+    let r = told g.T.TakerFault.Refusal.means c.end.result in
+    let p : Paragraph = record { depth = c.args.depth; text = bs } in
+    let w : GrowsBy (g.T.ParagraphTaker.means a) (g.T.ParagraphTaker.means c.end.new.taker) (HandedOne p r) = record {
+      steps = asked (to_end k) r ∷ fed bs (length bs) None ∷ asked (to_open c.args.depth) (Ok k) ∷ [];
+      grows = λ s h t.
+          asks (feeds (asks t (to_open c.args.depth) (Ok k) o.answered o.changed (lawful b)) bs (length bs) None (sym all) (sym none) f.changed (subst (λ (n : ℕ). LawfulThrough m bs n) (f.taken ∙ all) f.lawful) (lawful d)) (to_end k) r c.end.ensures.answered c.end.ensures.changed (lawful c.end.new.taker);
+      so = ended_as p k r;
+    } in
     record {
-      handed = record {
-        steps = asked (to_end k) r ∷ fed bs (length bs) None ∷ asked (to_open c.args.depth) (Ok k) ∷ [];
-        grows = λ s h t.
-            asks (feeds (asks t (to_open c.args.depth) (Ok k) o.answered o.changed (lawful b)) bs (length bs) None (sym all) (sym none) f.changed (subst (λ (n : ℕ). LawfulThrough m bs n) (f.taken ∙ all) f.lawful) (lawful d)) (to_end k) r c.end.ensures.answered c.end.ensures.changed (lawful c.end.new.taker);
-        so = ended_as (record { depth = c.args.depth; text = bs }) k r;
-      };
+      handed = handed_of _ _ p _ w;
+      whole = w;
       kept = g.T.ParagraphTaker.chained a d c.end.new.taker (g.T.ParagraphTaker.chained a b d o.kept f.kept) c.end.ensures.kept;
     }
 
@@ -64,14 +73,17 @@ returns-in-Some g c =
     let n = c.feed-refused.result.0 in
     let o = c.in-Ok.ensures in
     let f = c.feed-refused.ensures in
-    let why = via g.TakerFault.Refusal.means c.feed-refused.result.1 in
+    let why = via g.T.TakerFault.Refusal.means c.feed-refused.result.1 in
     let up = c.give_up.ensures in
+    let p : Paragraph = record { depth = c.args.depth; text = bs } in
+    let w : GrowsBy (g.T.ParagraphTaker.means a) (g.T.ParagraphTaker.means c.give_up.new.taker) (HandedOne p (Err (g.T.TakerFault.Refusal.means c.in-Some.f))) = record {
+      steps = asked (to_give_up k) (Err (g.T.TakerFault.Refusal.means c.give_up.result)) ∷ fed bs n why ∷ asked (to_open c.args.depth) (Ok k) ∷ [];
+      grows = λ s h t.
+          asks (feeds (asks t (to_open c.args.depth) (Ok k) o.answered o.changed (lawful b)) bs n why f.taken f.fault f.changed f.lawful (lawful d)) (to_give_up k) _ (sym (ap (answer (value (g.T.ParagraphTaker.means d) (gives_up k))) up.answered)) up.changed (lawful c.give_up.new.taker);
+      so = subst (λ (w : Option Fault). Refused (record { depth = c.args.depth; text = bs }) (g.T.TakerFault.Refusal.means c.in-Some.f) (asked (to_give_up k) (Err (g.T.TakerFault.Refusal.means c.give_up.result)) ∷ fed bs n w ∷ asked (to_open c.args.depth) (Ok k) ∷ [])) (sym (ap (via g.T.TakerFault.Refusal.means) c.in-Some.is)) (in_text k n (g.T.TakerFault.Refusal.means c.give_up.result));
+    } in
     record {
-      handed = record {
-        steps = asked (to_give_up k) (Err (g.TakerFault.Refusal.means c.give_up.result)) ∷ fed bs n why ∷ asked (to_open c.args.depth) (Ok k) ∷ [];
-        grows = λ s h t.
-            asks (feeds (asks t (to_open c.args.depth) (Ok k) o.answered o.changed (lawful b)) bs n why f.taken f.fault f.changed f.lawful (lawful d)) (to_give_up k) _ (sym (ap (answer (value (g.T.ParagraphTaker.means d) (gives_up k))) up.answered)) up.changed (lawful c.give_up.new.taker);
-        so = subst (λ (w : Option Fault). Refused (record { depth = c.args.depth; text = bs }) (g.TakerFault.Refusal.means c.in-Some.f) (asked (to_give_up k) (Err (g.TakerFault.Refusal.means c.give_up.result)) ∷ fed bs n w ∷ asked (to_open c.args.depth) (Ok k) ∷ [])) (sym (ap (via g.TakerFault.Refusal.means) c.in-Some.is)) (in_text k n (g.TakerFault.Refusal.means c.give_up.result));
-      };
+      handed = handed_of _ _ p _ w;
+      whole = w;
       kept = g.T.ParagraphTaker.chained a d c.give_up.new.taker (g.T.ParagraphTaker.chained a b d o.kept f.kept) up.kept;
     }

@@ -1,4 +1,4 @@
-use Rattle.std.proofs.Common.{ℕ, false, List, get_or, drop, sym, refl, ◌∙◌, subst, arith}
+use Rattle.std.proofs.Common.{ℕ, false, List, get_or, ◌∙◌, subst, arith}
 use Rattle.std.proofs.lemmas.List.{drop_more, drop_all}
 use Rattle.orders.proofs.Answering.{answer_err, answer_ok}
 use Rattle.orders.proofs.Feeding.{Rest, refused, accepted, its_fault}
@@ -34,7 +34,7 @@ loop-i-preserved g c =
     let n = g.S.ByteSink.means c.loop-i.sink in
     let b = get_or xs i 0 in
     let h = subst (λ (r : List ℕ). Rest put m n i xs r) (drop_more xs i 0 c.loop-i-test.true) c.loop-i.invariant.0 in
-    let v = answer_ok tt _ _ c.in-default.ensures.answered in (
+    let v = answer_ok tt _ _ c.in_default.ensures.answered in (
       rw c.put.ensures.changed (accepted put m n i xs b _ h v),
       behind_then n _ (put b) _ _ _ c.put.ensures.changed c.loop-i.invariant.1 c.put.ensures.behind,
     )

@@ -1,4 +1,4 @@
-use Rattle.std.proofs.Common.{◌≡◌, ℕ, false, List, length, get_or, drop, sym, refl, ◌∙◌, subst, arith}
+use Rattle.std.proofs.Common.{◌≡◌, ℕ, false, List, length, get_or, refl, ◌∙◌, subst, arith}
 use Rattle.std.proofs.lemmas.List.{drop_more, drop_all}
 use Rattle.orders.proofs.Answering.{answer_err, answer_ok}
 use Rattle.orders.proofs.Feeding.{Rest, refused, accepted, its_fault}
@@ -36,7 +36,7 @@ loop-i-preserved g c =
     let n = g.T.ParagraphTaker.means c.loop-i.taker in
     let b = get_or xs i 0 in
     let h = subst (λ (r : List ℕ). Rest texts m n i xs r) (drop_more xs i 0 c.loop-i-test.true) c.loop-i.invariant.0 in
-    let v = answer_ok tt _ _ c.in-default.ensures.answered in (
+    let v = answer_ok tt _ _ c.in_default.ensures.answered in (
       rw c.put.ensures.changed (accepted texts m n i xs b _ h v),
       g.T.ParagraphTaker.chained c.args.taker.now c.loop-i.taker _ c.loop-i.invariant.1 c.put.ensures.kept,
       through_more m xs i n _ c.loop-i.invariant.2 c.loop-i-test.true v c.put.ensures.changed (g.T.ParagraphTaker.lawful c.put.new.self),

@@ -7,4 +7,12 @@ pub invariant_of-self : goal.invariant_of-self
 invariant_of-self c =
     let h = c.args.self.now in
     let v = held_valid h.depth h.width (held_of h) h.valid in
-    (h.size, (h.fits, (omega arith, (h.shallow, (h.narrow, (h.short, (∣ record { no_space = v.no_space; known = v.known } ∣₁, tt)))))))
+    record {
+      size = h.size;
+      fits = h.fits;
+      few = omega arith;
+      shallow = h.shallow;
+      narrow = h.narrow;
+      short = h.short;
+      valid = ∣ record { no_space = v.no_space; known = v.known } ∣₁;
+    }

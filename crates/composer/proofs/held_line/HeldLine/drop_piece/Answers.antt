@@ -19,7 +19,15 @@ invariant_of-self c =
     let short = subst (λ (x : Held). width h.depth x.line ≤ 998) (sym is) (omega arith) in
     let valid = subst (Valid h.depth h.width) (sym is) c.requires.valid in
     let fits = h.fits in
-    (c.shift.ensures.size ∙ h.size, (omega arith, (omega arith, (h.shallow, (h.narrow, (short, (∣ valid ∣₁, tt)))))))
+    record {
+      size = c.shift.ensures.size ∙ h.size;
+      fits = omega arith;
+      few = omega arith;
+      shallow = h.shallow;
+      narrow = h.narrow;
+      short = short;
+      valid = ∣ valid ∣₁;
+    }
 
 pub returns : goal.returns
 returns c =

@@ -16,4 +16,12 @@ invariant_of-self c =
     let few = c.requires.few in
     let short = subst (λ (t : Text). width h.depth t ≤ 998) (sym line) c.requires.width in
     let valid = subst (Valid h.depth h.width) (sym is) c.requires.valid in
-    (c.append.ensures.size ∙ h.size, (c.requires.short, (omega arith, (h.shallow, (h.narrow, (short, (∣ valid ∣₁, tt)))))))
+    record {
+      size = c.append.ensures.size ∙ h.size;
+      fits = c.requires.short;
+      few = omega arith;
+      shallow = h.shallow;
+      narrow = h.narrow;
+      short = short;
+      valid = ∣ valid ∣₁;
+    }

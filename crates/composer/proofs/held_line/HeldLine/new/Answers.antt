@@ -6,4 +6,12 @@ use Rattle.composer.proofs.held_line.HeldLine.new.Goals as goal
 pub invariant_of-result : goal.invariant_of-result
 invariant_of-result c =
     let short = width_le 0 [] in
-    (refl, (omega arith, (omega arith, (omega arith, (omega arith, (omega arith, (∣ (start_tracks 0 c.args.width).valid ∣₁, tt)))))))
+    record {
+      size = refl;
+      fits = omega arith;
+      few = omega arith;
+      shallow = omega arith;
+      narrow = omega arith;
+      short = omega arith;
+      valid = ∣ (start_tracks 0 c.args.width).valid ∣₁;
+    }

@@ -7,4 +7,12 @@ pub invariant_of-self : goal.invariant_of-self
 invariant_of-self c =
     let h = c.args.self.now in
     let short = width_le c.args.depth [] in
-    (h.size, (omega arith, (omega arith, (omega arith, (h.narrow, (omega arith, (∣ (start_tracks c.args.depth h.width).valid ∣₁, tt)))))))
+    record {
+      size = h.size;
+      fits = omega arith;
+      few = omega arith;
+      shallow = omega arith;
+      narrow = h.narrow;
+      short = omega arith;
+      valid = ∣ (start_tracks c.args.depth h.width).valid ∣₁;
+    }

@@ -12,7 +12,7 @@ send_piece-requires g c =
 
 pub returns-in_err-send_piece : goal.returns-in_err-send_piece
 returns-in_err-send_piece g c =
-    let r = err_from_is_err_and c.from-residual.result c.from-residual.ensures.1 in
+    let r = err_from_is_err_and c.from_residual.result c.from_residual.ensures.1 in
     rw (r.1, r.2) (cut_off c.args.self.now c.args.b c.requires.plain c.loop-piece.self _ _ _ _ c.loop-piece.invariant c.in-Some.piece c.in-Some.ensures _ _ _ c.in_err-send_piece.ensures)
 
 pub drop_piece-requires : goal.drop_piece-requires
@@ -34,7 +34,7 @@ pub join-requires : goal.join-requires
 join-requires g c =
     let e = c.args.self.now in
     let l = c.loop-piece.self in
-    let none = sym c.in-default.is ∙ c.piece.ensures in
+    let none = sym c.in_default.is ∙ c.piece.ensures in
     let inv = c.loop-piece.invariant in
     let less = inv.less in
     let few = c.requires.few in
@@ -47,6 +47,6 @@ join-requires g c =
 
 pub returns : goal.returns
 returns g c =
-    let none = sym c.in-default.is ∙ c.piece.ensures in
+    let none = sym c.in_default.is ∙ c.piece.ensures in
     let j = c.join.ensures in
     joined_on c.args.self.now c.args.b c.requires.plain c.loop-piece.self _ _ _ _ c.loop-piece.invariant none c.join.new.self j.held j.depth j.width j.lines j.len

@@ -6,7 +6,7 @@ use Rattle.composer.proofs.paragraph.Paragraph.end.Goals as goal
 
 pub returns-in_err-send_last : goal.returns-in_err-send_last
 returns-in_err-send_last g c =
-    let r = err_from_is_err_and c.from-residual.result c.from-residual.ensures.1 in
+    let r = err_from_is_err_and c.from_residual.result c.from_residual.ensures.1 in
     let p = c.args.self.now in
     rw (r.1, r.2) (record {
       sends = sends_same _ _ _ _ _ _ _ (end_sent p c.requires) c.in_err-send_last.ensures;

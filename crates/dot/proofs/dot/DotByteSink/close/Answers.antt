@@ -1,4 +1,4 @@
-use Rattle.std.proofs.Common.{Err, sym, refl, ap, ◌∙◌, ap₂, rules}
+use Rattle.std.proofs.Common.{Err, sym, refl, ap, ◌∙◌, ap₂}
 use Rattle.fault.specs.declared.cause.Cause.TheVariants.{Incomplete}
 use Rattle.fault.specs.Answers.{answer}
 use Rattle.fault.specs.Kinds.{stage_fault}
@@ -25,10 +25,10 @@ returns-in-Shut g c =
     let d = in_shut dot stage_fault (g.S.ByteSink.means s.below) s.line s.phase s.place close _ c.in-Shut.is in
     record { answered = ap Err c.own-in-Shut.ensures ∙ sym (ap (answer _) d.tells); changed = d.leads; behind = refl }
 
-pub returns-in-default : goal.returns-in-default
-returns-in-default g c =
+pub returns-in_default : goal.returns-in_default
+returns-in_default g c =
     let s = c.args.self.now in
-    let d = in_own dot stage_fault (g.S.ByteSink.means s.below) s.line s.phase s.place close c.in-Running.is Incomplete (closes_not s.line c.in-default.not-Start) refl (stage_fault c.own-f.result) c.own-f.ensures s.line in
+    let d = in_own dot stage_fault (g.S.ByteSink.means s.below) s.line s.phase s.place close c.in-Running.is Incomplete (closes_not s.line c.in_default.not-Start) refl (stage_fault c.own-f.result) c.own-f.ensures s.line in
     record { answered = sym (ap (answer _) d.tells); changed = d.leads; behind = refl }
 
 pub returns-in-Ok : goal.returns-in-Ok

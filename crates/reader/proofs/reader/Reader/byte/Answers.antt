@@ -12,17 +12,17 @@ pub returns-in-Err : goal.returns-in-Err
 returns-in-Err g c =
     let s = c.args.self.now in
     let r = reading_of g.U.UndoStage.means g.T.ParagraphTaker.means s in
-    let run = still_running r.phase s.place c.in-default.ensures in
+    let run = still_running r.phase s.place c.in_default.ensures in
     let t = c.in-Err.ensures in
     let d = settles r _ (Some (reader_fault c.in-Err.f)) (wire_byte r c.args.b) Running run (answer_err tt _ _ t.answered) t.changed in
     record { answered = sym (ap (answer tt) d.fault); changed = d.left; kept = t.kept }
 
-pub returns-in-default-answer : goal.returns-in-default-answer
-returns-in-default-answer g c =
+pub returns-in_default-answer : goal.returns-in_default-answer
+returns-in_default-answer g c =
     let s = c.args.self.now in
     let r = reading_of g.U.UndoStage.means g.T.ParagraphTaker.means s in
-    let run = still_running r.phase s.place c.in-default.ensures in
-    let t = c.in-default-answer.ensures in
+    let run = still_running r.phase s.place c.in_default.ensures in
+    let t = c.in_default-answer.ensures in
     let none = answer_ok tt tt _ t.answered in
     let n = reading_of g.U.UndoStage.means g.T.ParagraphTaker.means c.take-answer.new.self in
     let phase : n.phase ≡ Running = ap (λ (m : Reading g.T.ParagraphTaker.Item). m.phase) t.changed ∙ wire_phase r c.args.b ∙ run in

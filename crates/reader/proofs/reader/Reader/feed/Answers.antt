@@ -30,7 +30,7 @@ loop-i-preserved g c =
     let r = reading_of g.U.UndoStage.means g.T.ParagraphTaker.means c.args.self.now in
     let n = reading_of g.U.UndoStage.means g.T.ParagraphTaker.means c.loop-i.self in
     let h = subst (λ (l : List ℕ). Rest r n i xs l) (drop_more xs i 0 c.loop-i-test.true) c.loop-i.invariant.0 in
-    let b = c.in-default.ensures in (
+    let b = c.in_default.ensures in (
       accepted_at r n i xs (get_or xs i 0) _ h _ (answer_ok tt _ _ b.answered) b.changed,
       g.T.ParagraphTaker.chained c.args.self.now.delivery.taker c.loop-i.self.delivery.taker _ c.loop-i.invariant.1 b.kept,
     )

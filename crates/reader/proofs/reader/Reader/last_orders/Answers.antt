@@ -6,11 +6,11 @@ use Rattle.reader.specs.Readers.{reading_of}
 use Rattle.reader.proofs.Finishing.{finished}
 use Rattle.reader.proofs.reader.Reader.last_orders.Goals as goal
 
-pub returns-in_ok-end_if : goal.returns-in_ok-end_if
-returns-in_ok-end_if g c =
+pub returns-in_ok-end_if-in-Ok : goal.returns-in_ok-end_if-in-Ok
+returns-in_ok-end_if-in-Ok g c =
     let s = c.args.self.now in
     let r = reading_of g.U.UndoStage.means g.T.ParagraphTaker.means s in
-    let e = c.in_ok-end_if.ensures in
+    let e = c.in_ok-end_if-in-Ok.ensures in
     let t = c.finish-in-Ok.ensures in
     let f = finished r _ _ _ c.in-Ok.ensures (search rules) e.handed in
     record {

@@ -10,4 +10,9 @@ invariant_of-self c =
     let k = s.records.ok.0 in
     let q : s.count ≤ 4294967295 = subst (λ (i : Bool). in_use s.count i ≤ 4294967295) c.requires s.numbered in
     let n : s.count < length (vec_items s.records) = omega arith in
-    (omega arith, (omega arith, (open_tiles (vec_items s.records) (vec_items s.bytes) s.count s.used c.args.depth s.inside c.requires (filed s) n, (s.room, tt))))
+    record {
+      few = omega arith;
+      numbered = omega arith;
+      tiles = open_tiles (vec_items s.records) (vec_items s.bytes) s.count s.used c.args.depth s.inside c.requires (filed s) n;
+      room = s.room;
+    }

@@ -1,4 +1,4 @@
-use Rattle.std.proofs.Common.{◌≡◌, ◌+◌, ◌<◌, ◌≤◌, Bool, length, get_or, vec_items, vec_len, ap, ◌∙◌, subst, arith, rules}
+use Rattle.std.proofs.Common.{◌≡◌, ◌+◌, ◌≤◌, Bool, vec_items, vec_len, ap, subst, arith, rules}
 use Rattle.std.proofs.lemmas.List.{get_or_read}
 use Rattle.store.specs.declared.record.Record.{Record}
 use Rattle.store.specs.Events.{in_use}
@@ -7,8 +7,8 @@ use Rattle.store.specs.Foot.{nth, blank}
 use Rattle.store.proofs.Filing.{open_ends, text_tiles}
 use Rattle.store.proofs.store.Store.write_text.Goals as goal
 
-pub overflow_add-self : goal.overflow_add-self
-overflow_add-self c =
+pub overflow_add-r : goal.overflow_add-r
+overflow_add-r c =
     let s = c.args.self.now in
     let xs = vec_items s.records in
     let k = s.records.ok.0 in
@@ -25,4 +25,9 @@ invariant_of-self c =
     let k = s.records.ok.0 in
     let f : s.count + 1 ≤ vec_len s.records = subst (λ (i : Bool). in_use s.count i ≤ vec_len s.records) c.requires s.few in
     let q : c.index-r.result.now ≡ nth xs s.count = get_or_read xs s.count c.index-r.result.now (omega arith) c.index-r.ensures blank in
-    (s.few, (s.numbered, (text_tiles xs (vec_items s.bytes) s.count s.used s.inside c.requires (filed s) c.index-r.result.now q, (omega arith, tt))))
+    record {
+      few = s.few;
+      numbered = s.numbered;
+      tiles = text_tiles xs (vec_items s.bytes) s.count s.used s.inside c.requires (filed s) c.index-r.result.now q;
+      room = omega arith;
+    }

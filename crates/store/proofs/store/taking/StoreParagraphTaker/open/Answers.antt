@@ -13,7 +13,7 @@ returns-in-Some-write_open c =
     let a = c.args.self.now in
     let b = c.refuse.new.self in
     let o = opens c.args.depth in
-    let p = c.in-default.ensures in
+    let p = c.in_default.ensures in
     let h = c.in-Some-write_open.ensures in
     let t = took_from a b o p _ (open_took b (runs_on a b o p) c.args.depth (passes_on a b o p) _ _ h) in
     record {
@@ -27,7 +27,7 @@ returns-in-None c =
     let a = c.args.self.now in
     let b = c.refuse.new.self in
     let o = opens c.args.depth in
-    let p = c.in-default.ensures in
+    let p = c.in_default.ensures in
     let h = c.in-None.ensures in
     let f = c.shut_full.ensures in
     let same = h.same in

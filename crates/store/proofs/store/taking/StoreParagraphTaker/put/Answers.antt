@@ -13,7 +13,7 @@ returns-then-write_text c =
     let a = c.args.self.now in
     let b = c.refuse.new.self in
     let o = texts c.args.b in
-    let p = c.in-default.ensures in
+    let p = c.in_default.ensures in
     let h = c.write_text.ensures.taken c.if-write_text.true in
     let t = took_from a b o p _ (text_took b (runs_on a b o p) c.args.b (passes_on a b o p) _ h) in
     record { answered = sym (ap (answer tt) t.told); changed = t.left; kept = t.kept }
@@ -23,7 +23,7 @@ returns c =
     let a = c.args.self.now in
     let b = c.refuse.new.self in
     let o = texts c.args.b in
-    let p = c.in-default.ensures in
+    let p = c.in_default.ensures in
     let h = c.write_text.ensures.full c.if-write_text.false in
     let f = c.shut_full.ensures in
     let same = h.same in

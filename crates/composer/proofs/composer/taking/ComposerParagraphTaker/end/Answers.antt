@@ -8,7 +8,7 @@ use Rattle.layer.proofs.ByPhase.{ok_value}
 use Rattle.composer.specs.Machine.{composer}
 use Rattle.composer.specs.Composers.{state_of}
 use Rattle.composer.proofs.Outcomes.{kept, still_running, was_accepted, was_stopped, came_over, came_refused}
-use Rattle.composer.proofs.composer.taker.ComposerParagraphTaker.end.Goals as goal
+use Rattle.composer.proofs.composer.taking.ComposerParagraphTaker.end.Goals as goal
 
 pub returns-in-Some : goal.returns-in-Some
 returns-in-Some g c =
@@ -17,7 +17,7 @@ returns-in-Some g c =
 
 pub returns-in-Some-end_refusal : goal.returns-in-Some-end_refusal
 returns-in-Some-end_refusal g c =
-    let k = came_refused g.S.ByteSink.means g.S.ByteSink.memory c.args.self.now (ends c.args.number) c.in-default.ensures c.in-Some-end_refusal.cause (sym c.in-Some-end_refusal.ensures) c.refuse.result c.refuse.ensures.fault c.refuse.new.self c.refuse.ensures.left in
+    let k = came_refused g.S.ByteSink.means g.S.ByteSink.memory c.args.self.now (ends c.args.number) c.in_default.ensures c.in-Some-end_refusal.cause (sym c.in-Some-end_refusal.ensures) c.refuse.result c.refuse.ensures.fault c.refuse.new.self c.refuse.ensures.left in
     record { answered = sym (ap (answer _) k.tells); changed = k.leads; kept = k.kept }
 
 pub returns-in-Ok : goal.returns-in-Ok
@@ -25,9 +25,9 @@ returns-in-Ok g c =
     let s = c.args.self.now in
     let m = g.S.ByteSink.means s.below in
     let o = ends c.args.number in
-    let run = still_running m (state_of s) s.phase s.place o c.in-default.ensures in
+    let run = still_running m (state_of s) s.phase s.place o c.in_default.ensures in
     let t = c.in-Ok.ensures in
-    let d = was_accepted m (state_of s) s.phase s.place o run (sym c.in-default-end_refusal.ensures) _ t.sends.changed (answer_ok tt tt _ t.sends.answered) _ (λ i. record { width = t.width i; opened = s.opened; paragraph = t.closed i }) (phased composer_fault s.phase) (ap (phased composer_fault) run) s.place refl in
+    let d = was_accepted m (state_of s) s.phase s.place o run (sym c.in_default-end_refusal.ensures) _ t.sends.changed (answer_ok tt tt _ t.sends.answered) _ (λ i. record { width = t.width i; opened = s.opened; paragraph = t.closed i }) (phased composer_fault s.phase) (ap (phased composer_fault) run) s.place refl in
     let v = ok_value composer composer_fault m (state_of s) s.phase s.place o run _ d.leads _ refl _ t.tells in
     record { answered = ap₂ answer v (sym d.tells); changed = d.leads; kept = kept _ _ o _ _ d.leads t.sends.behind }
 
@@ -36,7 +36,7 @@ returns-in-Err g c =
     let s = c.args.self.now in
     let m = g.S.ByteSink.means s.below in
     let o = ends c.args.number in
-    let run = still_running m (state_of s) s.phase s.place o c.in-default.ensures in
+    let run = still_running m (state_of s) s.phase s.place o c.in_default.ensures in
     let t = c.in-Err.ensures in
-    let d = was_stopped m (state_of s) s.phase s.place o run (sym c.in-default-end_refusal.ensures) _ t.sends.changed (composer_fault c.in-Err.f) (answer_err tt _ _ t.sends.answered) (state_of s) in
+    let d = was_stopped m (state_of s) s.phase s.place o run (sym c.in_default-end_refusal.ensures) _ t.sends.changed (composer_fault c.in-Err.f) (answer_err tt _ _ t.sends.answered) (state_of s) in
     record { answered = sym (ap (answer _) d.tells); changed = d.leads; kept = kept _ _ o _ _ d.leads t.sends.behind }

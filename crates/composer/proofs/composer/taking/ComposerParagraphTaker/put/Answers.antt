@@ -6,7 +6,7 @@ use Rattle.orders.proofs.Answering.{answer_err, answer_ok}
 use Rattle.taker.specs.Paragraph.{texts}
 use Rattle.composer.specs.Composers.{state_of}
 use Rattle.composer.proofs.Outcomes.{kept, still_running, was_accepted, was_stopped, came_over, came_refused}
-use Rattle.composer.proofs.composer.taker.ComposerParagraphTaker.put.Goals as goal
+use Rattle.composer.proofs.composer.taking.ComposerParagraphTaker.put.Goals as goal
 
 pub returns-in-Some : goal.returns-in-Some
 returns-in-Some g c =
@@ -15,7 +15,7 @@ returns-in-Some g c =
 
 pub returns-in-Some-refusal : goal.returns-in-Some-refusal
 returns-in-Some-refusal g c =
-    let k = came_refused g.S.ByteSink.means g.S.ByteSink.memory c.args.self.now (texts c.args.b) c.in-default.ensures c.in-Some-refusal.cause (sym c.in-Some-refusal.ensures) c.refuse.result c.refuse.ensures.fault c.refuse.new.self c.refuse.ensures.left in
+    let k = came_refused g.S.ByteSink.means g.S.ByteSink.memory c.args.self.now (texts c.args.b) c.in_default.ensures c.in-Some-refusal.cause (sym c.in-Some-refusal.ensures) c.refuse.result c.refuse.ensures.fault c.refuse.new.self c.refuse.ensures.left in
     record { answered = sym (ap (answer tt) k.tells); changed = k.leads; kept = k.kept }
 
 pub returns-in-Ok : goal.returns-in-Ok
@@ -23,9 +23,9 @@ returns-in-Ok g c =
     let s = c.args.self.now in
     let m = g.S.ByteSink.means s.below in
     let o = texts c.args.b in
-    let run = still_running m (state_of s) s.phase s.place o c.in-default.ensures in
+    let run = still_running m (state_of s) s.phase s.place o c.in_default.ensures in
     let t = c.in-Ok.ensures in
-    let d = was_accepted m (state_of s) s.phase s.place o run (sym c.in-default-refusal.ensures) _ t.sends.changed (answer_ok tt tt _ t.sends.answered) _ (λ i. record { width = t.width i; opened = s.opened; paragraph = t.within refl i }) (phased composer_fault s.phase) (ap (phased composer_fault) run) _ c.saturating_add-self.ensures in
+    let d = was_accepted m (state_of s) s.phase s.place o run (sym c.in_default-refusal.ensures) _ t.sends.changed (answer_ok tt tt _ t.sends.answered) _ (λ i. record { width = t.width i; opened = s.opened; paragraph = t.within refl i }) (phased composer_fault s.phase) (ap (phased composer_fault) run) _ c.saturating_add-self.ensures in
     record { answered = sym (ap (answer tt) d.tells); changed = d.leads; kept = kept _ _ o _ _ d.leads t.sends.behind }
 
 pub returns-in-Err : goal.returns-in-Err
@@ -33,7 +33,7 @@ returns-in-Err g c =
     let s = c.args.self.now in
     let m = g.S.ByteSink.means s.below in
     let o = texts c.args.b in
-    let run = still_running m (state_of s) s.phase s.place o c.in-default.ensures in
+    let run = still_running m (state_of s) s.phase s.place o c.in_default.ensures in
     let t = c.in-Err.ensures in
-    let d = was_stopped m (state_of s) s.phase s.place o run (sym c.in-default-refusal.ensures) _ t.sends.changed (composer_fault c.in-Err.f) (answer_err tt _ _ t.sends.answered) (state_of s) in
+    let d = was_stopped m (state_of s) s.phase s.place o run (sym c.in_default-refusal.ensures) _ t.sends.changed (composer_fault c.in-Err.f) (answer_err tt _ _ t.sends.answered) (state_of s) in
     record { answered = sym (ap (answer tt) d.tells); changed = d.leads; kept = kept _ _ o _ _ d.leads t.sends.behind }

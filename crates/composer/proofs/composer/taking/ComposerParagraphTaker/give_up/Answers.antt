@@ -1,7 +1,7 @@
 use Rattle.taker.specs.Paragraph.{gives_up}
 use Rattle.composer.specs.Composers.{state_of}
 use Rattle.composer.proofs.Outcomes.{came_over, came_refused, up_cause}
-use Rattle.composer.proofs.composer.taker.ComposerParagraphTaker.give_up.Goals as goal
+use Rattle.composer.proofs.composer.taking.ComposerParagraphTaker.give_up.Goals as goal
 
 pub returns-in-Some : goal.returns-in-Some
 returns-in-Some g c =
@@ -10,5 +10,5 @@ returns-in-Some g c =
 
 pub returns : goal.returns
 returns g c =
-    let k = came_refused g.S.ByteSink.means g.S.ByteSink.memory c.args.self.now (gives_up c.args.number) c.in-default.ensures c.unwrap_or-cause.result (up_cause c.args.number c.args.self.now.opened (state_of c.args.self.now).paragraph c.end_refusal.result c.end_refusal.ensures c.unwrap_or-cause.result c.unwrap_or-cause.ensures) c.refuse.result c.refuse.ensures.fault c.refuse.new.self c.refuse.ensures.left in
+    let k = came_refused g.S.ByteSink.means g.S.ByteSink.memory c.args.self.now (gives_up c.args.number) c.in_default.ensures c.unwrap_or-cause.result (up_cause c.args.number c.args.self.now.opened (state_of c.args.self.now).paragraph c.end_refusal.result c.end_refusal.ensures c.unwrap_or-cause.result c.unwrap_or-cause.ensures) c.refuse.result c.refuse.ensures.fault c.refuse.new.self c.refuse.ensures.left in
     record { answered = k.tells; changed = k.leads; kept = k.kept }
