@@ -1,8 +1,8 @@
 #!/usr/bin/env bash
-# What flowed prints, writes and answers on the command line. Wants target/bin/flowed, as `rt check` leaves it.
+# What flowed prints, writes and answers on the command line. Wants crates/flowed/out/flowed, as `rt run` in crates/flowed leaves it.
 set -u
 top=$(cd "$(dirname "$0")/.." && pwd)
-flowed=$top/target/bin/flowed
+flowed=$top/crates/flowed/out/flowed
 work=$(mktemp -d)
 trap 'rm -rf "$work"' EXIT
 cd "$work" || exit 1

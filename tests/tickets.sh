@@ -6,7 +6,7 @@ work=$(mktemp -d)
 trap 'rm -rf "$work"' EXIT
 mkdir -p "$work/crates/twice/src" "$work/crates/unspent/src"
 cp -r "$top/crates/fault" "$top/crates/orders" "$top/crates/taker" "$work/crates/"
-rm -rf "$work"/crates/*/must-fail
+rm -rf "$work"/crates/*/must-fail "$work"/crates/*/out
 printf 'fault:\norders: fault\ntaker: fault orders\ntwice: taker\nunspent: taker\n' >"$work/crates.txt"
 cat >"$work/crates/twice/src/lib.rt" <<'T'
 use taker::paragraph_taker::ParagraphTaker;
@@ -28,10 +28,10 @@ failed=0
 
 # refused CRATE MESSAGE
 refused() {
-    if rt check "$1" >log 2>&1; then
+    if (cd "crates/$1" && rt check) >log 2>&1; then
         echo "FAILED: $1 was accepted"
         failed=1
-    elif ! grep -q "crates/$1/src/lib.rt:.*error\[$2\]" log; then
+    elif ! grep -q "^src/lib.rt:.*error\[$2\]" log; then
         echo "FAILED: $1 was refused without error[$2]"
         tail -n 5 log
         failed=1

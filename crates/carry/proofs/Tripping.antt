@@ -1,7 +1,7 @@
 -- A new dot stage over memory: what it sends for lines, and that it comes back.
 use Rattle.std.proofs.Common.{◌≡◌, ℕ, ◌≤◌, true, List, [], length, None, Ok, vec_len, Vec, sym, refl, ap, ◌∙◌, subst, arith}
 use Rattle.std.specs.declared.alloc.Global.{Global}
-use Rattle.std.specs.List.{AllByRecursion as All}
+use Rattle.std.specs.List.{AllByRecursion}
 use Rattle.orders.specs.declared.phase.Phase.TheVariants.{Running}
 use Rattle.orders.specs.Meaning.{Added, bars, ending}
 use Rattle.orders.specs.Permits.{Filled, fill, lift}
@@ -32,7 +32,7 @@ module _ (v : Vec ℕ Global) (bs : List ℕ) where
       subst (λ (w : List ℕ). returned (passed (new_stage v).fixed.also (compare_means bs 0 Running) w) ≡ Ok (shown bs)) (sym e) (comes_back (new_stage v) l refl bs reached.list (accepted (new_stage v) bs refl h))
 
   -- the lines of a body that fits, stuffed
-  pub trip_stuffed : (ls : List (List ℕ)) → All Clean ls → bs ≡ text_of ls → length (stuffed ls) ≤ vec_len v → reached ≡ record { list = stuffed ls; fault = None }
+  pub trip_stuffed : (ls : List (List ℕ)) → AllByRecursion Clean ls → bs ≡ text_of ls → length (stuffed ls) ≤ vec_len v → reached ≡ record { list = stuffed ls; fault = None }
   trip_stuffed ls c e h =
       let m = new_stage v in
       let at : Added ℕ → Filled ℕ = λ a. finished (ending m.fixed) true a.fault (fill (bars m.fixed) [] a.items) in

@@ -1,6 +1,6 @@
 // A body through a new dot stage into memory, and back through the undoing to a comparison with the body.
 ghost use Rattle.std.specs.Prelude.{◌≡◌, ℕ, ◌≤◌, true, List, length, take, drop, vec_len};
-ghost use Rattle.std.specs.List.{AllByRecursion as All};
+ghost use Rattle.std.specs.List.{AllByRecursion};
 ghost use Rattle.fault.specs.Kinds.{end_fault, stage_fault, undo_fault};
 ghost use Rattle.orders.specs.declared.phase.Phase.TheVariants.{Running as Open};
 ghost use Rattle.orders.specs.Permits.{all_of};
@@ -56,7 +56,7 @@ pub fn carry(memory: Vec<u8>, body: &[u8]) -> Carried
     ensures trip { trip_meant stage_fault undo_fault end_fault result.trip ≡ trip_of (reach (new_stage memory) (down body.now true) true).fault (shown body.now) }
     ensures kept { drop result.len result.memory.items ≡ drop result.len memory.items }
     ensures within { result.len ≤ vec_len result.memory }
-    ensures stuffed { (ls : List (List ℕ)) → All Clean ls → body.now ≡ text_of ls → length (stuffed ls) ≤ vec_len memory → reach (new_stage memory) (down body.now true) true ≡ all_of (stuffed ls) }
+    ensures stuffed { (ls : List (List ℕ)) → AllByRecursion Clean ls → body.now ≡ text_of ls → length (stuffed ls) ≤ vec_len memory → reach (new_stage memory) (down body.now true) true ≡ all_of (stuffed ls) }
 {
     let mut stage = Dot::new(MemoryEnd::new(memory));
     let mut undoing = stage.undoing();

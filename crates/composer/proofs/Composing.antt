@@ -1,6 +1,6 @@
 -- A new composer sends the wire bytes of the paragraphs that it is given.
 use Rattle.std.proofs.Common.{◌≡◌, ℕ, ◌+◌, ◌<◌, ◌≤◌, min, Bool, true, false, not, ◌&&◌, leb, ◌↔◌, List, [], ◌∷◌, ◌++◌, length, is_some, Some, None, Option, sym, refl, ap, ◌∙◌, subst, append-nil, arith, length-append}
-use Rattle.std.specs.List.{AllByRecursion as All}
+use Rattle.std.specs.List.{AllByRecursion}
 use Rattle.std.proofs.lemmas.Bool.{lt-leb, le-leb}
 use Rattle.fault.specs.declared.fault.Fault.{Fault}
 use Rattle.fault.specs.declared.cause.Cause.{Cause}
@@ -70,7 +70,7 @@ module _ (w : ℕ) (narrow : w ≤ 998) (m : Sink) where
   abbrev new : Taker ℕ
   new = layer_means composer m (start w) Running 0
 
-  module _ (ps : List Paragraph) (cs : Text) (oks : All Writable ps) (q : wires w ps ≡ Some cs) where
+  module _ (ps : List Paragraph) (cs : Text) (oks : AllByRecursion Writable ps) (q : wires w ps ≡ Some cs) where
     ended : length ps ≤ limit → SendsEnded m new ps cs
     ended few =
         let x = mail_steps w narrow ps 0 cs oks (omega arith) q in

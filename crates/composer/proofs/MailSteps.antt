@@ -1,6 +1,6 @@
 -- Whole paragraphs, one after another.
 use Rattle.std.proofs.Common.{◌≡◌, ℕ, ◌+◌, ◌<◌, ◌≤◌, Bool, not, ltb, leb, List, [], ◌∷◌, ◌++◌, length, Some, None, Option, sym, refl, ap, ◌∙◌, subst, arith}
-use Rattle.std.specs.List.{AllByRecursion as All}
+use Rattle.std.specs.List.{AllByRecursion}
 use Rattle.std.proofs.lemmas.Bool.{lt-leb, le-ltb, eq-eqb}
 use Rattle.fault.specs.declared.cause.Cause.{Cause}
 use Rattle.fault.specs.declared.cause.Cause.TheVariants.{TooDeep, OverLimit, WrongNumber}
@@ -65,7 +65,7 @@ module _ (w : ℕ) (narrow : w ≤ 998) where
           let end = step (end_step w (n + 1) p.depth p.text f) refl histories.start in
           subst (λ (l : Text). Steps composer (between_at w n) (begun p ++ ends (n + 1) ∷ []) l (between_at w (n + 1))) (sym (wire_lines_append p.depth f.flowed (last ∷ [])) ∙ bytes) (steps_append composer one end)
 
-  pub mail_steps : (ps : List Paragraph) (n : ℕ) (cs : Text) → All Writable ps → n + length ps ≤ limit → wires w ps ≡ Some cs → Steps composer (between_at w n) (given (n + 1) ps) cs (between_at w (n + length ps))
+  pub mail_steps : (ps : List Paragraph) (n : ℕ) (cs : Text) → AllByRecursion Writable ps → n + length ps ≤ limit → wires w ps ≡ Some cs → Steps composer (between_at w n) (given (n + 1) ps) cs (between_at w (n + length ps))
   mail_steps [] n cs ok few q =
       let none : [] ≡ cs = same_some q in
       let same : n ≡ n + 0 = omega arith in

@@ -1,6 +1,6 @@
 -- The text of a paragraph, byte after byte: what is held and what was sent follow from the folding of the text so far.
 use Rattle.std.proofs.Common.{◌≡◌, ℕ, ◌+◌, ◌<◌, ◌≤◌, true, false, not, leb, List, [], ◌∷◌, ◌++◌, length, drop, replicate, is_some, Some, None, Option, sym, refl, ap, ◌∙◌, subst, append_assoc, append-nil, arith, length-append, drop-drop, MatchOption}
-use Rattle.std.specs.List.{flat_map, AllByRecursion as All}
+use Rattle.std.specs.List.{flat_map, AllByRecursion}
 use Rattle.std.proofs.lemmas.Bool.{lt-leb}
 use Rattle.fault.specs.declared.cause.Cause.{Cause}
 use Rattle.fault.specs.declared.cause.Cause.TheVariants.{BarredByte, OverLimit, NoFolding}
@@ -122,7 +122,7 @@ module _ (d w : ℕ) (small : d ≤ 100) where
     pub lines : g.flowed ≡ f.flowed ++ more
     pub steps : Steps composer (open_at w n d t f) (text_orders u) (wire_lines d more) (open_at w n d (t ++ u) g)
 
-  pub text_steps : (n : ℕ) (u t : Text) (f g : Folded) → folding d w (trimmed t) ≡ Some f → folding d w (trimmed (t ++ u)) ≡ Some g → All (λ b. barred b ≡ false) u → length (t ++ u) ≤ limit → Texted n t u f g
+  pub text_steps : (n : ℕ) (u t : Text) (f g : Folded) → folding d w (trimmed t) ≡ Some f → folding d w (trimmed (t ++ u)) ≡ Some g → AllByRecursion (λ b. barred b ≡ false) u → length (t ++ u) ≤ limit → Texted n t u f g
   text_steps n [] t f g e q p l =
       let same : f ≡ g = same_some (sym e ∙ ap (λ (x : Text). folding d w (trimmed x)) (sym (append-nil t)) ∙ q) in
       record {

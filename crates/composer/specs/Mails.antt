@@ -1,6 +1,6 @@
 -- Paragraphs given as orders, and what they add below.
 use Rattle.std.specs.Prelude.{◌≡◌, ℕ, ◌+◌, ◌<◌, ◌≤◌, min, true, false, ◌↔◌, List, [], ◌∷◌, ◌++◌, length, Some, None, Option}
-use Rattle.std.specs.List.{AllByRecursion as All}
+use Rattle.std.specs.List.{AllByRecursion}
 use Rattle.fault.specs.declared.cause.Cause.TheVariants.{NoFolding}
 use Rattle.fault.specs.declared.layer.Layer.TheVariants.{Composer}
 use Rattle.fault.specs.Faults.{own, most}
@@ -18,7 +18,7 @@ use Rattle.composer.specs.Machine.{deepest, limit, barred}
 -- a paragraph that the composer takes if it has a folding
 pub record Writable (p : Paragraph) : Type 0 where
   pub shallow : p.depth ≤ deepest
-  pub plain : All (λ b. barred b ≡ false) p.text
+  pub plain : AllByRecursion (λ b. barred b ≡ false) p.text
   pub short : length p.text ≤ limit
 
 -- a paragraph opened, with its text so far
@@ -64,6 +64,6 @@ pub record SendsOpen (w : ℕ) (m : Sink) (c : Taker ℕ) (ps : List Paragraph) 
 
 -- a new composer of width w over the sink m
 pub record Composes (w : ℕ) (m : Sink) (c : Taker ℕ) : Type 0 where
-  pub ended : (ps : List Paragraph) (cs : Text) → All Writable ps → length ps ≤ limit → wires w ps ≡ Some cs → SendsEnded m c ps cs
-  pub unended : (ps : List Paragraph) (cs : Text) → All Writable ps → length ps < limit → wires w ps ≡ Some cs →
+  pub ended : (ps : List Paragraph) (cs : Text) → AllByRecursion Writable ps → length ps ≤ limit → wires w ps ≡ Some cs → SendsEnded m c ps cs
+  pub unended : (ps : List Paragraph) (cs : Text) → AllByRecursion Writable ps → length ps < limit → wires w ps ≡ Some cs →
       (p : Paragraph) (f : Folded) → Writable p → folding p.depth w (trimmed p.text) ≡ Some f → SendsOpen w m c ps cs p f

@@ -1,6 +1,6 @@
 -- A run that has finished: its end took what comes back as the wire bytes of its settled paragraphs.
 use Rattle.std.proofs.Common.{◌≡◌, ℕ, true, List, [], ◌∷◌, ◌++◌, map, length, Some, None, Option, sym, refl, ap, ◌∙◌, subst, append-nil, arith}
-use Rattle.std.specs.List.{flat_map, AllByRecursion as All}
+use Rattle.std.specs.List.{flat_map, AllByRecursion}
 use Rattle.fault.specs.Answers.{raised}
 use Rattle.orders.specs.Meaning.{Added}
 use Rattle.orders.specs.Lists.{addition, reach}
@@ -32,28 +32,28 @@ use Rattle.conversation.proofs.AsRuled.{reached_met}
 use Rattle.conversation.proofs.Tracking.{tracked}
 
 -- ended paragraphs as they were sent
-abbrev pub as_sent : (w : ℕ) (ps : List Paragraph) → All (EndedOk w) ps → List Sent
+abbrev pub as_sent : (w : ℕ) (ps : List Paragraph) → AllByRecursion (EndedOk w) ps → List Sent
 as_sent w [] k = []
 as_sent w (p ∷ ps) k = record { depth = p.depth; text = p.text; folded = k.0.folded } ∷ as_sent w ps k.1
 
-pub sendable : (w : ℕ) (ps : List Paragraph) (k : All (EndedOk w) ps) → All Sendable (as_sent w ps k)
+pub sendable : (w : ℕ) (ps : List Paragraph) (k : AllByRecursion (EndedOk w) ps) → AllByRecursion Sendable (as_sent w ps k)
 sendable w [] k = tt
 sendable w (p ∷ ps) k = (record { shallow = k.0.ok.shallow; clean = k.0.ok.plain; width = w; folds = k.0.folds }, sendable w ps k.1)
 
-pub same_bytes : (w : ℕ) (ps : List Paragraph) (k : All (EndedOk w) ps) → ended_bytes w ps ≡ sent_bytes (as_sent w ps k)
+pub same_bytes : (w : ℕ) (ps : List Paragraph) (k : AllByRecursion (EndedOk w) ps) → ended_bytes w ps ≡ sent_bytes (as_sent w ps k)
 same_bytes w [] k = refl
 same_bytes w (p ∷ ps) k =
     ap (λ (o : Option Folded). wire_lines p.depth (pieces_of o) ++ ended_bytes w ps) k.0.folds
     ∙ ap (λ (t : Text). wire_lines p.depth (pieces_of (Some k.0.folded)) ++ t) (same_bytes w ps k.1)
 
-pub same_paragraphs : (w : ℕ) (ps : List Paragraph) (k : All (EndedOk w) ps) → settled_paragraphs (as_sent w ps k) ≡ map settle ps
+pub same_paragraphs : (w : ℕ) (ps : List Paragraph) (k : AllByRecursion (EndedOk w) ps) → settled_paragraphs (as_sent w ps k) ≡ map settle ps
 same_paragraphs w [] k = refl
 same_paragraphs w (p ∷ ps) k = ap (λ (l : List Paragraph). settle p ∷ l) (same_paragraphs w ps k.1)
 
 -- what is known of a finished run
 pub record Finished (w : ℕ) (m : Sink) (h : List Step) (t : Taker ℕ) : Type 0 where
   pub ended : List Paragraph
-  pub ok : All (EndedOk w) ended
+  pub ok : AllByRecursion (EndedOk w) ended
   pub listed : settled_in h ≡ map settle ended
   pub took : Accepts m (ended_bytes w ended) t.foot
 

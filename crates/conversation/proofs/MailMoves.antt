@@ -1,6 +1,6 @@
 -- A composer moves as the rules state for the mail that it accepted.
 use Rattle.std.proofs.Common.{◌≡◌, ℕ, ◌+◌, ◌<◌, ◌≤◌, Bool, true, false, not, eqb, ltb, leb, List, [], ◌∷◌, ◌++◌, length, is_some, Some, None, Option, sym, refl, ap, ◌∙◌, ap₂, append_assoc, append-nil, arith, length-append, ltb-false, eqb-true, leb-false}
-use Rattle.std.specs.List.{AllByRecursion as All}
+use Rattle.std.specs.List.{AllByRecursion}
 use Rattle.std.proofs.ByRecursion.{All-push}
 use Rattle.reading.proofs.Joins.{joined_append}
 use Rattle.sink.specs.Sink.{Sink}
@@ -53,7 +53,7 @@ OpenOk w n (Some p) = Opened w n p
 
 -- what holds of every mail that was accepted
 pub record MailOk (w : ℕ) (m : Mail) : Type 0 where
-  pub ended : All (EndedOk w) m.ended
+  pub ended : AllByRecursion (EndedOk w) m.ended
   pub few : length m.ended ≤ limit
   pub begun : OpenOk w (length m.ended) m.begun
 
@@ -109,7 +109,7 @@ text_length_push : (ps : List Paragraph) (p : Paragraph) → text_length (ps ++ 
 text_length_push [] p = omega arith
 text_length_push (q ∷ ps) p = let ih = text_length_push ps p in omega arith
 
-module _ (w : ℕ) (narrow : w ≤ 998) (ps : List Paragraph) (oks : All (EndedOk w) ps) where
+module _ (w : ℕ) (narrow : w ≤ 998) (ps : List Paragraph) (oks : AllByRecursion (EndedOk w) ps) where
   abbrev n : ℕ
   n = length ps
 

@@ -1,7 +1,7 @@
 -- The dot stage stuffs the lines of a text, and takes no other text.
 use Rattle.std.proofs.Common.{◌≡◌, ℕ, Bool, true, false, cond, eqb, List, [], ◌∷◌, ◌++◌, map, Some, None, Option, sym, refl, ap, ◌∙◌, subst, append_assoc, arith, ne_eqb, eqb-true}
 use borrow.Author.Tests.{eqb-false}
-use Rattle.std.specs.List.{AllByRecursion as All}
+use Rattle.std.specs.List.{AllByRecursion}
 use Rattle.sink.specs.Sink.{Sink, down}
 use Rattle.sink.proofs.Going.{down_going}
 use Rattle.layer.specs.Wire.{wire, wired, behind}
@@ -40,7 +40,7 @@ line_on : (l bs cs : List ℕ) → Clean l → sent Start bs ≡ Some cs → sen
 line_on [] bs cs c h = crlf_on Start bs cs (λ e. let z : ◌≡◌ {A = ℕ} 0 1 = cc in absurd (omega arith)) h
 line_on (b ∷ l) bs cs c h = byte_on Start b Within (l ++ (crlf ++ bs)) (l ++ (crlf ++ cs)) (clean_on b c.0) (rest_on l bs cs c.1 h) ∙ ap (λ (x : List ℕ). Some x) (first_byte (eqb b 46) b l (crlf ++ cs) refl)
 
-lines_on : (ls : List (List ℕ)) → All Clean ls → sent Start (text_of ls) ≡ Some (stuffed ls)
+lines_on : (ls : List (List ℕ)) → AllByRecursion Clean ls → sent Start (text_of ls) ≡ Some (stuffed ls)
 lines_on [] c = refl
 lines_on (l ∷ ls) c =
     line_on l (text_of ls) (stuffed ls) c.0 (lines_on ls c.1)
@@ -51,14 +51,14 @@ record Rest (bs : List ℕ) : Type 0 where
   first : List ℕ
   clean : Clean first
   lines : List (List ℕ)
-  all : All Clean lines
+  all : AllByRecursion Clean lines
   is : bs ≡ first ++ (crlf ++ text_of lines)
 
 -- what is left of a text, by where it is left
 abbrev Left : LineState → List ℕ → Type 0
-Left Start bs = (ls : List (List ℕ)) × (All Clean ls × (bs ≡ text_of ls))
+Left Start bs = (ls : List (List ℕ)) × (AllByRecursion Clean ls × (bs ≡ text_of ls))
 Left Within bs = Rest bs
-Left AfterCr bs = (ls : List (List ℕ)) × (All Clean ls × (bs ≡ 10 ∷ text_of ls))
+Left AfterCr bs = (ls : List (List ℕ)) × (AllByRecursion Clean ls × (bs ≡ 10 ∷ text_of ls))
 
 none_left : (l : LineState) (cs : List ℕ) → sent l [] ≡ Some cs → Left l []
 none_left Start cs e = ([], (tt, refl))

@@ -1,6 +1,6 @@
 -- Transparency, RFC 5321 section 4.5.2, over the lines of a whole text.
 use Rattle.std.specs.Prelude.{ℕ, cond, List, [], ◌∷◌, ◌++◌, map, ◌==◌, ◌≢◌}
-use Rattle.std.specs.List.{AllByRecursion as All}
+use Rattle.std.specs.List.{AllByRecursion}
 
 abbrev pub crlf : List ℕ
 crlf = 13 ∷ 10 ∷ []
@@ -11,7 +11,7 @@ end_mark = 46 ∷ crlf
 
 -- a line has no 0D and no 0A in it
 abbrev pub Clean : List ℕ → Type 0
-Clean l = All (λ b. (b ≢ 13) × (b ≢ 10)) l
+Clean l = AllByRecursion (λ b. (b ≢ 13) × (b ≢ 10)) l
 
 -- the text of lines, each ended by CRLF
 abbrev pub text_of : List (List ℕ) → List ℕ

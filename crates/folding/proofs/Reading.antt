@@ -1,7 +1,7 @@
 -- Foldings read back.
 use Rattle.std.proofs.Common.{◌≡◌, ℕ, zero, suc, Bool, true, false, cond, ◌||◌, eqb, leb, List, [], ◌∷◌, ◌++◌, replicate, refl, ap, ◌∙◌, subst, add-one, arith}
 use Rattle.std.specs.Str.{bytes_eq}
-use Rattle.std.specs.List.{AllByRecursion as All}
+use Rattle.std.specs.List.{AllByRecursion}
 use Rattle.std.proofs.ByRecursion.{All-weaker}
 use Rattle.std.proofs.lemmas.Slice.Eq.{bytes_eq-Decides}
 use Rattle.std.proofs.lemmas.Bool.{le-leb, both_ways}
@@ -38,7 +38,7 @@ line_reads (suc d) (b ∷ p) =
     ap (λ x. read_line (replicate (suc d) quote_mark ++ (stuffing (x || eqb b space || eqb b quote_mark) ++ b ∷ p))) quoted
     ∙ reads_quoted (suc d) (space ∷ b ∷ p) (b ∷ p) refl
 
-lines_read : (d : ℕ) (ps : List Text) → All (λ p. read_line (bare_line d p) ≡ record { depth = d; content = p }) ps
+lines_read : (d : ℕ) (ps : List Text) → AllByRecursion (λ p. read_line (bare_line d p) ≡ record { depth = d; content = p }) ps
 lines_read d [] = tt
 lines_read d (p ∷ ps) = (line_reads d p, lines_read d ps)
 

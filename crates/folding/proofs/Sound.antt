@@ -1,6 +1,6 @@
 -- The lines of a folding are as they should be.
 use Rattle.std.proofs.Common.{◌≡◌, ℕ, ◌<◌, ◌≤◌, true, List, [], ◌∷◌, ◌++◌, take, Some, sym, refl, ap, ◌∙◌, inl, inr, append-nil, arith, take-append-drop, take-take}
-use Rattle.std.specs.List.{flat_map, AllByRecursion as All}
+use Rattle.std.specs.List.{flat_map, AllByRecursion}
 use Rattle.std.proofs.ByRecursion.{All-append, All-weaker}
 use Rattle.folding.specs.Text.{Text, signature, ends_in_space, settled}
 use Rattle.folding.specs.WireLine.{width}
@@ -69,7 +69,7 @@ pub last_short : (d w : ℕ) (t : Text) → w ≤ 998 → LastLine d w t → wid
 last_short d w t l (LastLine.fitting k) = omega arith
 last_short d w t l (LastLine.unbroken o u s) = s
 
-steps_short : {d w : ℕ} {t : Text} {f : Folded} → w ≤ 998 → Steps d w t f → All (λ p. width d p ≤ 998) (pieces f)
+steps_short : {d w : ℕ} {t : Text} {f : Folded} → w ≤ 998 → Steps d w t f → AllByRecursion (λ p. width d p ≤ 998) (pieces f)
 steps_short {d} {w} l (Steps.last {t = t} h) = (last_short d w t l h, tt)
 steps_short {d} {w} l (Steps.line {t = t} {n = n} h r) = (flowed_short d w t n l h, steps_short l r)
 

@@ -1,6 +1,6 @@
 -- What is proved of foldings of whole texts.
 use Rattle.std.specs.Prelude.{◌≡◌, ℕ, ◌+◌, ◌<◌, ◌≤◌, true, false, ◌⊎◌, ◌↔◌, List, ◌++◌, length, replicate, Some, None}
-use Rattle.std.specs.List.{flat_map, AllByRecursion as All}
+use Rattle.std.specs.List.{flat_map, AllByRecursion}
 use Rattle.folding.specs.Text.{Text, space, signature, ends_in_space, trimmed, settled, settled_behind}
 use Rattle.folding.specs.WireLine.{lead, width}
 use Rattle.folding.specs.Breaks.{Unbroken}
@@ -49,21 +49,21 @@ FitsOrUnbroken d w p = (width d p ≤ w) ⊎ Unbroken p
 -- and no line is wider than it must be
 pub record Sound (d w : ℕ) (t : Text) (f : Folded) : Type 0 where
   pub joins : flat_map (λ p. p) (pieces f) ≡ t
-  pub flowed : All Flowed f.flowed
+  pub flowed : AllByRecursion Flowed f.flowed
   pub last : ends_in_space f.last ≡ ends_in_space t
-  pub widths : All (FitsOrUnbroken d w) (pieces f)
+  pub widths : AllByRecursion (FitsOrUnbroken d w) (pieces f)
 
 abbrev pub SoundFoldings : Type 0
 SoundFoldings = (d w : ℕ) (t : Text) (f : Folded) → folding d w t ≡ Some f → Sound d w t f
 
 -- no line is wider than 998
 abbrev pub ShortLines : Type 0
-ShortLines = (d w : ℕ) (t : Text) (f : Folded) → d ≤ 100 → w ≤ 998 → folding d w t ≡ Some f → All (λ p. width d p ≤ 998) (pieces f)
+ShortLines = (d w : ℕ) (t : Text) (f : Folded) → d ≤ 100 → w ≤ 998 → folding d w t ≡ Some f → AllByRecursion (λ p. width d p ≤ 998) (pieces f)
 
 -- the last line ends in a space only as 2D 2D 20, and a line is 2D 2D 20 only where that is the whole settled text
 pub record SignedAlone (t : Text) (f : Folded) : Type 0 where
   pub ends : ends_in_space f.last ≡ true → settled t ≡ signature
-  pub signed : All (λ p. p ≡ signature → settled t ≡ signature) (pieces f)
+  pub signed : AllByRecursion (λ p. p ≡ signature → settled t ≡ signature) (pieces f)
   pub alone : settled t ≡ signature → f ≡ one_line signature
 
 abbrev pub SignaturesAlone : Type 0

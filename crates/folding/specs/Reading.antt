@@ -1,7 +1,7 @@
 -- How a line is read (RFC 3676, 4.1 Interpreting Format=Flowed), as far as joining a folding again needs it.
 use Rattle.std.specs.Prelude.{◌≡◌, ℕ, ◌+◌, cond, [], ◌∷◌, Some, ◌==◌}
 use Rattle.std.specs.Str.{bytes_eq}
-use Rattle.std.specs.List.{flat_map, AllByRecursion as All}
+use Rattle.std.specs.List.{flat_map, AllByRecursion}
 use Rattle.folding.specs.Text.{Text, space, signature, ends_in_space, settled}
 use Rattle.folding.specs.WireLine.{quote_mark, bare_line}
 use Rattle.folding.specs.Folded.{Folded, pieces}
@@ -36,8 +36,8 @@ kind c = cond (bytes_eq c signature) signed (cond (ends_in_space c) flowed fixed
 -- each line of a folding gives its depth and its piece back, each but the last is flowed, the last is fixed, or is a signature
 -- line and the only one; and the contents joined are the settled text
 pub record ReadsBack (d : ℕ) (t : Text) (f : Folded) : Type 0 where
-  pub each : All (λ p. read_line (bare_line d p) ≡ record { depth = d; content = p }) (pieces f)
-  pub flowing : All (λ p. kind p ≡ flowed) f.flowed
+  pub each : AllByRecursion (λ p. read_line (bare_line d p) ≡ record { depth = d; content = p }) (pieces f)
+  pub flowing : AllByRecursion (λ p. kind p ≡ flowed) f.flowed
   pub last : kind f.last ≡ flowed → ⊥
   pub alone : kind f.last ≡ signed → f.flowed ≡ []
   pub text : flat_map (λ p. p) (pieces f) ≡ settled t

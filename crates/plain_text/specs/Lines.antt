@@ -1,6 +1,6 @@
 -- The lines of a plain text.
 use Rattle.std.specs.Prelude.{◌≡◌, ℕ, ◌+◌, Bool, false, cond, not, ◌&&◌, List, [], ◌∷◌, ◌++◌, map, take, drop, ◌==◌, ◌≢◌}
-use Rattle.std.specs.List.{prefix_len, AllByRecursion as All}
+use Rattle.std.specs.List.{prefix_len, AllByRecursion}
 use Rattle.folding.specs.Text.{Text}
 
 abbrev pub line_feed : ℕ
@@ -47,7 +47,7 @@ abbrev pub behind_line : Text → Text
 behind_line t = drop (before_feed t + 1) t
 
 abbrev pub NoFeed : Text → Type 0
-NoFeed t = All (λ b. (b == line_feed) ≡ false) t
+NoFeed t = AllByRecursion (λ b. (b == line_feed) ≡ false) t
 
 abbrev pub ends_in : ℕ → Text → Bool
 ends_in x [] = false

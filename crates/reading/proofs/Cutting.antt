@@ -1,6 +1,6 @@
 -- Where the first paragraph of lines ends.
 use Rattle.std.proofs.Common.{◌≡◌, ℕ, true, false, List, [], ◌∷◌, ◌++◌, map, sym, refl, ap, subst, append-nil}
-use Rattle.std.specs.List.{flat_map, AllByRecursion as All}
+use Rattle.std.specs.List.{flat_map, AllByRecursion}
 use Rattle.std.proofs.lemmas.Bool.{eq-eqb}
 use Rattle.folding.specs.Text.{Text}
 use Rattle.folding.specs.Reading.{Line, Kind, signed, flowed, fixed, kind}
@@ -38,14 +38,14 @@ module _ (d : ℕ) where
   alone : (q : Text) (ms : List Line) → is_flowed (kind q) ≡ false → OneParagraph (q ∷ []) ms
   alone q ms e = rw (append-nil q) (last_line (line d q) ms e)
 
-  flowing : (fs : List Text) (q : Text) (ms : List Line) → All (λ p. kind p ≡ flowed) fs → kind q ≡ fixed → OneParagraph (fs ++ q ∷ []) ms
+  flowing : (fs : List Text) (q : Text) (ms : List Line) → AllByRecursion (λ p. kind p ≡ flowed) fs → kind q ≡ fixed → OneParagraph (fs ++ q ∷ []) ms
   flowing [] q ms h e = alone q ms (ap is_flowed e)
   flowing (f ∷ []) q ms h e = flowed_line (line d f) (line d q) _ ms ms (goes_on f q fixed h.0 e refl) (flowing [] q ms tt e)
   flowing (f ∷ g ∷ fs) q ms h e =
       flowed_line (line d f) (line d g) _ (map (line d) (fs ++ q ∷ []) ++ ms) ms (goes_on f g flowed h.0 h.1.0 refl) (flowing (g ∷ fs) q ms h.1 e)
 
   -- flowed lines, and a last one that is not flowed, and a signature line only if it is the only one
-  pub one_paragraph : (fs : List Text) (q : Text) (ms : List Line) → All (λ p. kind p ≡ flowed) fs → (kind q ≡ flowed → ⊥) → (kind q ≡ signed → fs ≡ []) →
+  pub one_paragraph : (fs : List Text) (q : Text) (ms : List Line) → AllByRecursion (λ p. kind p ≡ flowed) fs → (kind q ≡ flowed → ⊥) → (kind q ≡ signed → fs ≡ []) →
       OneParagraph (fs ++ q ∷ []) ms
   one_paragraph fs q ms h n a = go (kind q) refl
     where

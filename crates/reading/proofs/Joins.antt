@@ -1,6 +1,6 @@
 -- Lists joined.
 use Rattle.std.proofs.Common.{◌≡◌, List, [], ◌∷◌, ◌++◌, map, sym, refl, ap, ◌∙◌, append_assoc}
-use Rattle.std.specs.List.{flat_map, AllByRecursion as All}
+use Rattle.std.specs.List.{flat_map, AllByRecursion}
 
 pub joined_append : {X A : Type 0} (f : X → List A) (xs ys : List X) → flat_map f (xs ++ ys) ≡ flat_map f xs ++ flat_map f ys
 joined_append f [] ys = refl
@@ -11,14 +11,14 @@ joined_map f g [] = refl
 joined_map {A = A} f g (x ∷ xs) = ap (λ (l : List A). f (g x) ++ l) (joined_map f g xs)
 
 module _ {X : Type 0} (P : X → Type 0) where
-  pub all_front : (xs ys : List X) → All P (xs ++ ys) → All P xs
+  pub all_front : (xs ys : List X) → AllByRecursion P (xs ++ ys) → AllByRecursion P xs
   all_front [] ys h = tt
   all_front (x ∷ xs) ys h = (h.0, all_front xs ys h.1)
 
-  pub all_back : (xs ys : List X) → All P (xs ++ ys) → All P ys
+  pub all_back : (xs ys : List X) → AllByRecursion P (xs ++ ys) → AllByRecursion P ys
   all_back [] ys h = h
   all_back (x ∷ xs) ys h = all_back xs ys h.1
 
-  pub all_parts : (xss : List (List X)) → All P (flat_map (λ xs. xs) xss) → All (All P) xss
+  pub all_parts : (xss : List (List X)) → AllByRecursion P (flat_map (λ xs. xs) xss) → AllByRecursion (AllByRecursion P) xss
   all_parts [] h = tt
   all_parts (xs ∷ xss) h = (all_front xs (flat_map (λ ys. ys) xss) h, all_parts xss (all_back xs (flat_map (λ ys. ys) xss) h))

@@ -1,6 +1,6 @@
 -- Whole lines are read as their paragraphs.
 use Rattle.std.proofs.Common.{◌≡◌, ℕ, List, [], ◌∷◌, Some, None, Ok, Option, refl, ap, ◌∙◌, append-nil}
-use Rattle.std.specs.List.{AllByRecursion as All}
+use Rattle.std.specs.List.{AllByRecursion}
 use Rattle.folding.specs.Text.{Text}
 use Rattle.folding.specs.Reading.{Line, read_line}
 use Rattle.reading.specs.Lines.{Readable, text_of, read_lines}
@@ -19,7 +19,7 @@ open_behind o [] = o
 open_behind o (l ∷ ls) = open_behind (open_after l) ls
 
 -- lines from any line beginning
-pub lines_go : (o : Option ℕ) (ls : List Text) → All Readable ls →
+pub lines_go : (o : Option ℕ) (ls : List Text) → AllByRecursion Readable ls →
     Goes (at_line o) (text_of ls) (lines_events o (read_lines ls)) (at_line (open_behind o (read_lines ls)))
 lines_go o [] h = goes_none
 lines_go o (l ∷ ls) h = goes_then (line_reads o l h.0) (lines_go (open_after (read_line l)) ls h.1)

@@ -1,6 +1,6 @@
 -- What any bytes come to, by the lines in them.
 use Rattle.std.proofs.Common.{◌≡◌, ℕ, zero, suc, List, [], ◌∷◌, ◌++◌, Ok, Err, Result, sym, refl, ap, ◌∙◌, subst, ⊎_elim, append_assoc, append-nil, arith}
-use Rattle.std.specs.List.{AllByRecursion as All}
+use Rattle.std.specs.List.{AllByRecursion}
 use Rattle.fault.specs.declared.cause.Cause.{Cause}
 use Rattle.folding.specs.Text.{Text}
 use Rattle.folding.specs.WireLine.{crlf}
@@ -16,7 +16,7 @@ use Rattle.reading.proofs.Standing.{Stands, Ended, After, step_after}
 -- bytes that were taken: whole lines, and the beginning of another
 pub record Taken (s : State) (bs : List ℕ) : Type 0 where
   pub lines : List Text
-  pub readable : All Readable lines
+  pub readable : AllByRecursion Readable lines
   pub line : Text
   pub stands : Stands s line
   pub is : bs ≡ text_of lines ++ line
@@ -73,7 +73,7 @@ finished_line (behind_cr d k c) q fs es e h = absurd (err_ok e)
 pub only_lines_read : OnlyLinesRead
 only_lines_read bs es = go (run start bs).left (start_outcome bs)
   where
-    go : (r : Result State Cause) → Outcome r bs → finish_by (run start bs).handed r ≡ Ok es → (ls : List Text) × All Readable ls × (bs ≡ text_of ls)
+    go : (r : Result State Cause) → Outcome r bs → finish_by (run start bs).handed r ≡ Ok es → (ls : List Text) × AllByRecursion Readable ls × (bs ≡ text_of ls)
     go (Ok s) w e =
         let none = finished_line s w.line (run start bs).handed es e w.stands in
         (w.lines, w.readable, w.is ∙ ap (λ (t : Text). text_of w.lines ++ t) none ∙ append-nil (text_of w.lines))

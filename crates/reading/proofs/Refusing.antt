@@ -1,7 +1,7 @@
 -- Which bytes are refused.
 use Rattle.std.proofs.Common.{◌≡◌, ℕ, zero, suc, ◌<◌, ◌≤◌, true, false, ◌⊎◌, List, [], ◌∷◌, ◌++◌, length, replicate, Some, None, Ok, Err, Option, Result, sym, refl, ap, ◌∙◌, subst, inl, inr, ⊎_elim, append-nil, arith, length-append}
 use lib.ListN.{length-replicate}
-use Rattle.std.specs.List.{AllByRecursion as All}
+use Rattle.std.specs.List.{AllByRecursion}
 use Rattle.std.proofs.lemmas.Bool.{both_ways, ne_eqb, le-ltb}
 use Rattle.fault.specs.declared.cause.Cause.{Cause}
 use Rattle.fault.specs.declared.cause.Cause.TheVariants.{TooDeep, Incomplete}
@@ -39,7 +39,7 @@ refused_at o q b c (Refused.no_cr r) = let a = line_taken o q r in (a, (next a.s
 refused_at o q b c (Refused.no_lf {l} r n m) = (cr_taken o l r, rw (ne_eqb b 0 n, ne_eqb b 0x0A m) refl)
 
 -- whole lines, and then the bytes of another
-left_behind : (ls : List Text) (q : Text) (cs : List ℕ) → All Readable ls → (a : At (open_behind None (read_lines ls)) q) →
+left_behind : (ls : List Text) (q : Text) (cs : List ℕ) → AllByRecursion Readable ls → (a : At (open_behind None (read_lines ls)) q) →
     (run start (text_of ls ++ (q ++ cs))).left ≡ (run a.state cs).left
 left_behind ls q cs h a =
     let o = open_behind None (read_lines ls) in

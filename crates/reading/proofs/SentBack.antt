@@ -1,6 +1,6 @@
 -- What is sent reads back.
 use Rattle.std.proofs.Common.{◌≡◌, ℕ, List, [], ◌∷◌, ◌++◌, map, None, Ok, sym, refl, ap, ◌∙◌}
-use Rattle.std.specs.List.{AllByRecursion as All}
+use Rattle.std.specs.List.{AllByRecursion}
 use Rattle.std.proofs.lemmas.List.{map-append}
 use Rattle.folding.specs.Text.{Text}
 use Rattle.folding.specs.WireLine.{crlf, bare_line}
@@ -37,7 +37,7 @@ record SentAs (ps : List Sent) : Type 0 where
   paragraphs_are : paragraphs (read_lines (sent_lines ps)) ≡ settled_paragraphs ps
   none_open : still_open (read_lines (sent_lines ps)) ≡ None
 
-sent_as : (ps : List Sent) → All Sendable ps → SentAs ps
+sent_as : (ps : List Sent) → AllByRecursion Sendable ps → SentAs ps
 sent_as [] h = record { paragraphs_are = refl; none_open = refl }
 sent_as (p ∷ ps) h =
     let q = h.0 in

@@ -1,6 +1,6 @@
 -- The lines of what is sent can be read.
 use Rattle.std.proofs.Common.{◌≡◌, ℕ, ◌≤◌, Bool, true, false, List, [], ◌∷◌, ◌++◌, map, replicate, sym, refl, ap, ◌∙◌, subst, ⊎_elim}
-use Rattle.std.specs.List.{AllByRecursion as All}
+use Rattle.std.specs.List.{AllByRecursion}
 use Rattle.std.proofs.ByRecursion.{All-append}
 use Rattle.taker.specs.Paragraph.{barred, deepest}
 use Rattle.folding.specs.Text.{Text, space, signature, trimmed, settled}
@@ -35,11 +35,11 @@ line_readable d p s h = record {
   shallow = subst (λ (l : Line). l.depth ≤ deepest) (sym (piece_reads d p)) s;
 }
 
-lines_readable : (d : ℕ) (ps : List Text) → d ≤ deepest → All Clean ps → All Readable (map (bare_line d) ps)
+lines_readable : (d : ℕ) (ps : List Text) → d ≤ deepest → AllByRecursion Clean ps → AllByRecursion Readable (map (bare_line d) ps)
 lines_readable d [] s h = tt
 lines_readable d (p ∷ ps) s h = (line_readable d p s h.0, lines_readable d ps s h.1)
 
-pub sent_readable : (ps : List Sent) → All Sendable ps → All Readable (sent_lines ps)
+pub sent_readable : (ps : List Sent) → AllByRecursion Sendable ps → AllByRecursion Readable (sent_lines ps)
 sent_readable [] h = tt
 sent_readable (p ∷ ps) h =
     let q = h.0 in

@@ -1,7 +1,7 @@
 -- Beginnings of 2D 2D 20.
 use Rattle.std.proofs.Common.{◌≡◌, ℕ, ◌≤◌, true, false, ◌&&◌, eqb, [], ◌∷◌, ◌++◌, length, sym, refl, subst, arith}
 use Rattle.std.specs.Str.{bytes_eq}
-use Rattle.std.specs.List.{AllByRecursion as All}
+use Rattle.std.specs.List.{AllByRecursion}
 use Rattle.std.proofs.lemmas.Bool.{both_ways, and_parts, and_from, eqb-true}
 use Rattle.taker.specs.Paragraph.{barred}
 use Rattle.folding.specs.Text.{Text, space, signature, ends_in_space}
@@ -23,7 +23,7 @@ beginning_short [] s e = omega arith
 beginning_short (b ∷ t) [] e = absurd (both_ways false refl e)
 beginning_short (b ∷ t) (c ∷ s) e = omega (arith, beginning_short t s (and_parts (eqb b c) (beginning_of t s) e).1)
 
-beginning_all : (P : ℕ → Type 0) (t s : Text) → beginning_of t s ≡ true → All P s → All P t
+beginning_all : (P : ℕ → Type 0) (t s : Text) → beginning_of t s ≡ true → AllByRecursion P s → AllByRecursion P t
 beginning_all P [] s e h = tt
 beginning_all P (b ∷ t) [] e h = absurd (both_ways false refl e)
 beginning_all P (b ∷ t) (c ∷ s) e h =

@@ -1,6 +1,6 @@
 -- What is proved of readings.
 use Rattle.std.specs.Prelude.{◌≡◌, ℕ, List, ◌++◌, Ok, Err, Result}
-use Rattle.std.specs.List.{flat_map, AllByRecursion as All}
+use Rattle.std.specs.List.{flat_map, AllByRecursion}
 use Rattle.fault.specs.declared.cause.Cause.{Cause}
 use Rattle.folding.specs.Text.{Text}
 use Rattle.folding.specs.Reading.{Line}
@@ -32,8 +32,8 @@ pub record ReadAsParagraphs (ls : List Text) : Type 0 where
   pub finished : read (text_of ls) ≡ Ok (told (paragraphs (read_lines ls)))
 
 abbrev pub LinesRead : Type 0
-LinesRead = (ls : List Text) → All Readable ls → ReadAsParagraphs ls
+LinesRead = (ls : List Text) → AllByRecursion Readable ls → ReadAsParagraphs ls
 
 -- no other bytes are taken whole and finished on
 abbrev pub OnlyLinesRead : Type 0
-OnlyLinesRead = (bs : List ℕ) (es : List Event) → read bs ≡ Ok es → (ls : List Text) × All Readable ls × (bs ≡ text_of ls)
+OnlyLinesRead = (bs : List ℕ) (es : List Event) → read bs ≡ Ok es → (ls : List Text) × AllByRecursion Readable ls × (bs ≡ text_of ls)

@@ -1,6 +1,6 @@
 -- The lines of wire bytes, and which of them can be read.
 use Rattle.std.specs.Prelude.{◌≡◌, ◌≤◌, Bool, true, false, not, ◌&&◌, List, ◌++◌, map, ◌==◌}
-use Rattle.std.specs.List.{flat_map, AllByRecursion as All}
+use Rattle.std.specs.List.{flat_map, AllByRecursion}
 use Rattle.taker.specs.Paragraph.{barred, deepest}
 use Rattle.folding.specs.Text.{Text}
 use Rattle.folding.specs.WireLine.{crlf}
@@ -12,7 +12,7 @@ text_of ls = flat_map (λ l. l ++ crlf) ls
 
 -- there is no 00, 0A and 0D in it
 abbrev pub Clean : Text → Type 0
-Clean t = All (λ b. barred b ≡ false) t
+Clean t = AllByRecursion (λ b. barred b ≡ false) t
 
 -- a line that can be read, by its bytes before CRLF
 pub record Readable (l : Text) : Type 0 where

@@ -1,6 +1,6 @@
 -- Which bytes are refused, and why.
 use Rattle.std.specs.Prelude.{◌≡◌, ℕ, ◌<◌, ◌⊎◌, ◌↔◌, List, [], ◌∷◌, ◌++◌, length, replicate, Err, ◌≢◌}
-use Rattle.std.specs.List.{AllByRecursion as All}
+use Rattle.std.specs.List.{AllByRecursion}
 use Rattle.fault.specs.declared.cause.Cause.{Cause}
 use Rattle.fault.specs.declared.cause.Cause.TheVariants.{TooDeep, BarredByte, Unpaired, Incomplete}
 use Rattle.taker.specs.Paragraph.{deepest}
@@ -25,7 +25,7 @@ pub data Refused : Text → ℕ → Cause → Type 0 where
 -- whole lines, the beginning of another, and a byte that is refused
 pub record FirstRefused (bs : List ℕ) (c : Cause) : Type 0 where
   pub lines : List Text
-  pub readable : All Readable lines
+  pub readable : AllByRecursion Readable lines
   pub line : Text
   pub byte : ℕ
   pub rest : List ℕ
@@ -40,7 +40,7 @@ pub data Begun : Text → Type 0 where
 -- whole lines and the beginning of another
 pub record Unfinished (bs : List ℕ) : Type 0 where
   pub lines : List Text
-  pub readable : All Readable lines
+  pub readable : AllByRecursion Readable lines
   pub line : Text
   pub begun : Begun line
   pub some : 0 < length line

@@ -1,6 +1,6 @@
 -- What is sent reads back.
 use Rattle.std.specs.Prelude.{◌≡◌, ℕ, ◌≤◌, List, map, Some, Ok}
-use Rattle.std.specs.List.{flat_map, AllByRecursion as All}
+use Rattle.std.specs.List.{flat_map, AllByRecursion}
 use Rattle.taker.specs.Paragraph.{deepest}
 use Rattle.folding.specs.Text.{Text, settled}
 use Rattle.folding.specs.WireLine.{bare_line, wire_lines}
@@ -38,14 +38,14 @@ settled_paragraphs ps = map (λ p. record { depth = p.depth; text = settled p.te
 -- and byte by byte, with the finish and without
 pub record ReadsBack (ps : List Sent) : Type 0 where
   pub bytes : text_of (sent_lines ps) ≡ sent_bytes ps
-  pub readable : All Readable (sent_lines ps)
+  pub readable : AllByRecursion Readable (sent_lines ps)
   pub by_lines : paragraphs (read_lines (sent_lines ps)) ≡ settled_paragraphs ps
   pub so_far : run start (sent_bytes ps) ≡ record { handed = told (settled_paragraphs ps); left = Ok start }
   pub finished : read (sent_bytes ps) ≡ Ok (told (settled_paragraphs ps))
 
 abbrev pub SentReadsBack : Type 0
-SentReadsBack = (ps : List Sent) → All Sendable ps → ReadsBack ps
+SentReadsBack = (ps : List Sent) → AllByRecursion Sendable ps → ReadsBack ps
 
 -- different paragraphs never share their wire bytes
 abbrev pub SentApart : Type 0
-SentApart = (ps qs : List Sent) → All Sendable ps → All Sendable qs → sent_bytes ps ≡ sent_bytes qs → settled_paragraphs ps ≡ settled_paragraphs qs
+SentApart = (ps qs : List Sent) → AllByRecursion Sendable ps → AllByRecursion Sendable qs → sent_bytes ps ≡ sent_bytes qs → settled_paragraphs ps ≡ settled_paragraphs qs
