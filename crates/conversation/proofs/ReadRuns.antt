@@ -111,10 +111,10 @@ module _ {E : Type 0} where
       go (Ok (Some d)) q a h ih = by (first_of l d rest.given es s h)
         where
           by : First l d rest.given es s → Ran r (b ∷ bs) es s
-          by (first {fs} {k} st es-are left) =
+          by (first {fs} {k} st es_are left) =
               let g = hand t n fs in
               let more = (run k rest.given).handed in
-              let both = handed_none g (hand g.taker g.number more) (sym (ap (λ (x : Handing E). x.fault) (ap (hand t n) es-are ∙ hand_append t n fs more)) ∙ c) in
+              let both = handed_none g (hand g.taker g.number more) (sym (ap (λ (x : Handing E). x.fault) (ap (hand t n) es_are ∙ hand_append t n fs more)) ∙ c) in
               let s' = at u' k g.taker g.number (grown p) in
               let one : byte r b ≡ record { left = s'; fault = None } =
               ap (λ (x : Result (Option ℕ) Fault). settled Running (undone_byte (at (taken_by x b u) l t n p) x)) q
@@ -122,7 +122,7 @@ module _ {E : Type 0} where
               ∙ ap (λ (v : Option Fault). settled Running (handed_on v (with_taker (at u' l t n p) g) k)) both.0 in
               let j = ih k g.taker g.number (grown p) more s a left both.1 in
               let same : hand t n es ≡ hand g.taker g.number more =
-              ap (hand t n) es-are ∙ hand_append t n fs more ∙ ap (λ (v : Option Fault). handed_by v g.taker g.number (hand g.taker g.number more)) both.0 in
+              ap (hand t n) es_are ∙ hand_append t n fs more ∙ ap (λ (v : Option Fault). handed_by v g.taker g.number (hand g.taker g.number more)) both.0 in
               record {
                 place = j.place;
                 undo = j.undo;
@@ -133,5 +133,5 @@ module _ {E : Type 0} where
                     ∙ ap (λ (x : Result (Option ℕ) Fault). undone_orders r x ++ chunk_orders s' bs) q
                     ∙ ap₂ (λ (x : Step) (y : List Order). step_orders r x ++ y) st j.orders
                     ∙ sym (orders_append fs more t n both.0)
-                    ∙ ap (orders_for t n) (sym es-are);
+                    ∙ ap (orders_for t n) (sym es_are);
               }

@@ -36,12 +36,12 @@ handed {E = E} mu mt law undo foot wire ps start r v z x y back is same at q acc
 }
 
 -- two composing runs with the same orders
-pub exchanged : (w : ℕ) (m l : Sink) (os : List Order) (t u : Taker ℕ) (x y : Result ℕ Fault) (p : Written w m t os x) (q : Written w l u os y) (Back Back-too : Undoing → List ℕ → List Paragraph → Type 0) (One Other : List Paragraph → Type 0) →
-    Holds w m l p.steps q.steps t u Back Back-too →
+pub exchanged : (w : ℕ) (m l : Sink) (os : List Order) (t u : Taker ℕ) (x y : Result ℕ Fault) (p : Written w m t os x) (q : Written w l u os y) (Back BackToo : Undoing → List ℕ → List Paragraph → Type 0) (One Other : List Paragraph → Type 0) →
+    Holds w m l p.steps q.steps t u Back BackToo →
     ((ps : List Paragraph) → Back m.fixed.also t.foot ps → One ps) →
-    ((ps : List Paragraph) → Back-too m.fixed.also t.foot ps → Other ps) →
+    ((ps : List Paragraph) → BackToo m.fixed.also t.foot ps → Other ps) →
     Exchanged w m l os t u x y One Other
-exchanged w m l os t u x y p q Back Back-too One Other holds one other = record {
+exchanged w m l os t u x y p q Back BackToo One Other holds one other = record {
   one = p;
   other = q;
   agree = holds.same (p.are ∙ sym q.are);

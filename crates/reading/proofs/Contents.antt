@@ -51,12 +51,12 @@ byte_goes_on d k c b e = go (beginning_of c signature) refl (beginning_of (c ++ 
     }
 
 -- and what more of it hands on, up to the content u
-record Goes_on (d : ℕ) (k : Bool) (c t u : Text) : Type 0 where
+record GoesOn (d : ℕ) (k : Bool) (c t u : Text) : Type 0 where
   events : List Event
   goes : Goes (in_content d k (stands c)) t events (in_content d k (stands u))
   adds : gone c ++ events ≡ gone u
 
-content_goes_on : (d : ℕ) (k : Bool) (c t u : Text) → c ++ t ≡ u → Clean t → Goes_on d k c t u
+content_goes_on : (d : ℕ) (k : Bool) (c t u : Text) → c ++ t ≡ u → Clean t → GoesOn d k c t u
 content_goes_on d k c [] u e h =
     let q : c ≡ u = sym (append-nil c) ∙ e in
     record {
