@@ -22,7 +22,7 @@ joined (Some p) bs = Some (record { depth = p.depth; text = p.text ++ bs })
 
 abbrev pub listing : Option Paragraph → List Paragraph → List Paragraph
 listing None l = l
-listing (Some p) l = l ++ settle p ∷ []
+listing (Some p) l = l ++ record { depth = p.depth; text = settled p.text } ∷ []
 
 -- an accepted open begins a text at its depth, an accepted end lists depth and settled text, a refusal lists nothing
 abbrev pub noted : Ask → Result ℕ Fault → Track → Track
