@@ -1,5 +1,6 @@
 #!/usr/bin/env bash
-# What flowed prints, writes and answers on the command line. Wants crates/flowed/out/flowed, as `rt run` in crates/flowed leaves it.
+# What flowed prints, writes and answers on the command line. Wants crates/flowed/out/flowed, as `rt run` in
+# crates/flowed leaves it.
 set -u
 top=$(cd "$(dirname "$0")/.." && pwd)
 flowed=$top/crates/flowed/out/flowed
