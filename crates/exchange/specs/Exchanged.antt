@@ -1,5 +1,5 @@
 -- A mail exchanged: two composing runs and two reading runs, and what the promise says of them.
-use Rattle.std.specs.Prelude.{◌≡◌, ℕ, true, List, ◌∷◌, ◌++◌, None, Ok, Result, Vec}
+use Rattle.std.specs.Prelude.{◌≡◌, ℕ, true, List, [], ◌∷◌, ◌++◌, None, Option, Result, Vec}
 use Rattle.std.specs.declared.alloc.Global.{Global}
 use Rattle.fault.specs.declared.fault.Fault.{Fault}
 use Rattle.orders.specs.declared.phase.Phase.TheVariants.{Running}
@@ -12,7 +12,7 @@ use Rattle.dot.specs.Dot.{dot}
 use Rattle.taker.specs.Paragraph.{Order, ends, Taker}
 use Rattle.taker.specs.Law.{Lawful}
 use Rattle.taker.specs.Mail.{Paragraph}
-use Rattle.history.specs.History.{Step, Reached}
+use Rattle.history.specs.History.{to_end, to_finish, Step, asked, Reached}
 use Rattle.history.specs.Orders.{orders}
 use Rattle.history.specs.Settled.{settled_paragraphs, has_finished, handed_on}
 use Rattle.composer.specs.Composers.{new_means}
@@ -21,6 +21,7 @@ use Rattle.conversation.specs.Reads.{StepRead}
 use Rattle.conversation.specs.Promise.{Agree, ReadBack}
 use Rattle.store.specs.declared.record.Record.{Record}
 use Rattle.exchange.specs.Mail.{mail_orders}
+use Rattle.exchange.specs.Given.{first_refusal}
 
 -- a new dot stage over a new memory end
 abbrev pub dotted : Vec ℕ Global → Sink
@@ -30,19 +31,28 @@ dotted v = layer_means dot (memory_means v 0 Running) Start Running 0
 abbrev pub exchange_orders : List ℕ → List Record → List Order
 exchange_orders text rs = ends 0 ∷ mail_orders text rs
 
--- a history grows by steps with these orders, of which the last is a finish that was answered z
-pub record Wrote {E : Type 0} (m n : Taker E) (os : List Order) (z : Result ℕ Fault) : Type 0 where
-  pub steps : List Step
-  pub grows : (start : Taker E) (h : List Step) → Reached start h m → Reached start (steps ++ h) n
-  pub are : orders steps ≡ os
-  pub over : (h : List Step) (k : ℕ) → z ≡ Ok k → has_finished (steps ++ h) ≡ true
+-- such an end, which was answered e, the steps of a mail's paragraphs, and a finish that was answered z (the newest first)
+abbrev pub exchange_steps : Result ℕ Fault → List Step → Result ℕ Fault → List Step
+exchange_steps e mail z = asked to_finish z ∷ (mail ++ asked (to_end 0) e ∷ [])
 
--- a run of a new composer of width w over m, by these orders, in whatever pieces; the last answer is that to the finish
-pub record Written (w : ℕ) (m : Sink) (t : Taker ℕ) (os : List Order) (z : Result ℕ Fault) : Type 0 where
-  pub steps : List Step
-  pub reached : Reached (new_means w m) steps t
-  pub are : orders steps ≡ os
-  pub over : (n : ℕ) → z ≡ Ok n → has_finished steps ≡ true
+-- a history grows by such steps, with these orders; v is the first refusal among the paragraphs
+pub record Wrote {E : Type 0} (m n : Taker E) (os : List Order) (v : Option Fault) (z : Result ℕ Fault) : Type 0 where
+  pub ended : Result ℕ Fault
+  pub mail : List Step
+  pub grows : (start : Taker E) (h : List Step) → Reached start h m → Reached start (exchange_steps ended mail z ++ h) n
+  pub are : orders (exchange_steps ended mail z) ≡ os
+  pub first : first_refusal mail ≡ v
+
+-- a run of a new composer of width w over m, by such steps with these orders, in whatever pieces
+pub record Written (w : ℕ) (m : Sink) (t : Taker ℕ) (os : List Order) (v : Option Fault) (z : Result ℕ Fault) : Type 0 where
+  pub ended : Result ℕ Fault
+  pub mail : List Step
+  pub reached : Reached (new_means w m) (exchange_steps ended mail z) t
+  pub are : orders (exchange_steps ended mail z) ≡ os
+  pub first : first_refusal mail ≡ v
+
+abbrev pub steps_in : {w : ℕ} {m : Sink} {t : Taker ℕ} {os : List Order} {v : Option Fault} {z : Result ℕ Fault} → Written w m t os v z → List Step
+steps_in {z = z} p = exchange_steps p.ended p.mail z
 
 -- what is read back by a reader that means r, over a taker that meant t and had opened n paragraphs
 pub record Back {E : Type 0} (t : Taker E) (n : ℕ) (ps : List Paragraph) (z : Result ℕ Fault) (r : Reading E) : Type 0 where
@@ -52,12 +62,12 @@ pub record Back {E : Type 0} (t : Taker E) (n : ℕ) (ps : List Paragraph) (z : 
 
 -- both runs were given the same orders, so they agree; and where the first has finished, a taker that accepts its settled
 -- paragraphs is handed them, whatever the chunks
-pub record Exchanged (w : ℕ) (m l : Sink) (os : List Order) (t u : Taker ℕ) (x y : Result ℕ Fault) (One Other : List Paragraph → Type 0) : Type 0 where
-  pub one : Written w m t os x
-  pub other : Written w l u os y
-  pub agree : Agree one.steps other.steps t u
-  pub back : has_finished one.steps ≡ true → One (settled_paragraphs one.steps)
-  pub back_too : has_finished one.steps ≡ true → Other (settled_paragraphs one.steps)
+pub record Exchanged (w : ℕ) (m l : Sink) (os : List Order) (t u : Taker ℕ) (v v' : Option Fault) (x y : Result ℕ Fault) (One Other : List Paragraph → Type 0) : Type 0 where
+  pub one : Written w m t os v x
+  pub other : Written w l u os v' y
+  pub agree : Agree (steps_in one) (steps_in other) t u
+  pub back : has_finished (steps_in one) ≡ true → One (settled_paragraphs (steps_in one))
+  pub back_too : has_finished (steps_in one) ≡ true → Other (settled_paragraphs (steps_in one))
 
 -- if the taker accepts them
 abbrev pub HandedBack : {E : Type 0} → (t : Taker E) → Lawful t → Result ℕ Fault → Reading E → List Paragraph → Type 0

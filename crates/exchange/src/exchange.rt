@@ -1,13 +1,15 @@
 // A mail sent by two composers and read back by two readers.
 ghost use Rattle.std.specs.Prelude.{◌≡◌, ℕ, [], vec_len};
-ghost use Rattle.fault.specs.Answers.{told};
+ghost use Rattle.fault.specs.Answers.{told, via};
 ghost use Rattle.fault.specs.Kinds.{composer_fault, reader_fault};
+ghost use Rattle.orders.specs.Behind.{Behind};
 ghost use Rattle.history.specs.History.{Reached};
 ghost use Rattle.composer.specs.Composers.{means_of, new_means};
 ghost use Rattle.reader.specs.Reading.{new_reading};
 ghost use Rattle.reader.specs.Readers.{reading_of};
-ghost use Rattle.exchange.specs.Exchanged.{dotted, exchange_orders, Wrote, Exchanged, HandedBack};
+ghost use Rattle.exchange.specs.Exchanged.{dotted, exchange_orders, Wrote, Written, Exchanged, HandedBack};
 ghost use Rattle.exchange.specs.Piles.{dot_means, undo_means, undotted};
+ghost use Rattle.exchange.specs.ReadSo.{ReadSo};
 
 use crate::mail::Mail;
 use crate::reading_back::{ReadBack, read_mail};
@@ -47,13 +49,14 @@ fn begin<S: ByteSink>(below: S, width: u32) -> Composer<S>
 fn new_writer(memory: Vec<u8>, width: u32) -> Writer
     ensures begun { Reached (new_means width (dot_means result.below)) [] (means_of dot_means result) }
     ensures below { dot_means result.below ≡ dotted memory }
+    ensures memory { result.below.below.memory ≡ memory }
 {
     begin(Dot::new(MemoryEnd::new(memory)), width)
 }
 
 // An end while nothing is open, which is refused and leaves all as it was; and then a mail.
 fn write<T: ParagraphTaker>(taker: &mut T, mail: Mail, cut: usize) -> Sent<T::TakerFault>
-    ensures wrote { Wrote (T.ParagraphTaker.means taker.old) (T.ParagraphTaker.means taker.new) (exchange_orders mail.entry.text.now mail.entry.records.now) (told T.TakerFault.Refusal.means result.finish) }
+    ensures wrote { Wrote (T.ParagraphTaker.means taker.old) (T.ParagraphTaker.means taker.new) (exchange_orders mail.entry.text.now mail.entry.records.now) (via T.TakerFault.Refusal.means result.refused) (told T.TakerFault.Refusal.means result.finish) }
     ensures kept { T.ParagraphTaker.keeps taker.old taker.new }
 {
     let _ = taker.end(0);
@@ -62,6 +65,7 @@ fn write<T: ParagraphTaker>(taker: &mut T, mail: Mail, cut: usize) -> Sent<T::Ta
 
 // A reader of what goes down here.
 fn reader_of<T: ParagraphTaker>(writer: &Writer, taker: T) -> Reader<Pair<Plain, DotUndo>, T>
+    ensures taker { result.delivery.taker ≡ taker }
     ensures reads { reading_of undo_means T.ParagraphTaker.means result ≡ new_reading undotted (T.ParagraphTaker.means taker) }
 {
     Reader::new(writer.below().undoing(), taker)
@@ -81,8 +85,8 @@ pub struct Outcome<T, W> {
 }
 
 // A mail through two composers of one width, its text cut at different places, and what the first sent through two
-// readers, in different chunks, each to a taker of its own. Where both memories are of one size, all that is promised
-// over whole runs holds of it.
+// readers, in different chunks, each to a taker of its own; also where some of it is refused. Where both memories are of
+// one size, all that is promised over whole runs holds of it.
 pub fn exchange<T: ParagraphTaker, W: ParagraphTaker>(
     memory: Vec<u8>,
     twin: Vec<u8>,
@@ -92,7 +96,15 @@ pub fn exchange<T: ParagraphTaker, W: ParagraphTaker>(
     taker: T,
     other: W,
 ) -> Outcome<T, W>
-    ensures { vec_len memory ≡ vec_len twin → Exchanged width (dotted memory) (dotted twin) (exchange_orders mail.entry.text.now mail.entry.records.now) (means_of dot_means result.first) (means_of dot_means result.second) (told composer_fault result.sent.finish) (told composer_fault result.sent_again.finish) (HandedBack (T.ParagraphTaker.means taker) (T.ParagraphTaker.lawful taker) (told reader_fault result.read.finish) (reading_of undo_means T.ParagraphTaker.means result.reader)) (HandedBack (W.ParagraphTaker.means other) (W.ParagraphTaker.lawful other) (told reader_fault result.read_again.finish) (reading_of undo_means W.ParagraphTaker.means result.again)) }
+    ensures sent { Written width (dotted memory) (means_of dot_means result.first) (exchange_orders mail.entry.text.now mail.entry.records.now) (via composer_fault result.sent.refused) (told composer_fault result.sent.finish) }
+    ensures sent_again { Written width (dotted twin) (means_of dot_means result.second) (exchange_orders mail.entry.text.now mail.entry.records.now) (via composer_fault result.sent_again.refused) (told composer_fault result.sent_again.finish) }
+    ensures memory { Behind (means_of dot_means result.first).foot memory.items result.first.below.below.memory.items }
+    ensures twin { Behind (means_of dot_means result.second).foot twin.items result.second.below.below.memory.items }
+    ensures read { ReadSo (new_reading undotted (T.ParagraphTaker.means taker)) (reading_of undo_means T.ParagraphTaker.means result.reader) (means_of dot_means result.first).foot (via reader_fault result.read.refused) (told reader_fault result.read.finish) }
+    ensures read_again { ReadSo (new_reading undotted (W.ParagraphTaker.means other)) (reading_of undo_means W.ParagraphTaker.means result.again) (means_of dot_means result.first).foot (via reader_fault result.read_again.refused) (told reader_fault result.read_again.finish) }
+    ensures kept { T.ParagraphTaker.keeps taker result.reader.delivery.taker }
+    ensures kept_again { W.ParagraphTaker.keeps other result.again.delivery.taker }
+    ensures promised { vec_len memory ≡ vec_len twin → Exchanged width (dotted memory) (dotted twin) (exchange_orders mail.entry.text.now mail.entry.records.now) (means_of dot_means result.first) (means_of dot_means result.second) (via composer_fault result.sent.refused) (via composer_fault result.sent_again.refused) (told composer_fault result.sent.finish) (told composer_fault result.sent_again.finish) (HandedBack (T.ParagraphTaker.means taker) (T.ParagraphTaker.lawful taker) (told reader_fault result.read.finish) (reading_of undo_means T.ParagraphTaker.means result.reader)) (HandedBack (W.ParagraphTaker.means other) (W.ParagraphTaker.lawful other) (told reader_fault result.read_again.finish) (reading_of undo_means W.ParagraphTaker.means result.again)) }
 {
     let mut first = new_writer(memory, width);
     let mut second = new_writer(twin, width);

@@ -1,9 +1,7 @@
-use Rattle.std.proofs.Common.{ℕ, List, [], ◌∷◌, ◌++◌, Result, sym, ap, ◌∙◌, subst, append_assoc}
-use Rattle.fault.specs.declared.fault.Fault.{Fault}
+use Rattle.std.proofs.Common.{List, [], ◌∷◌, ◌++◌, sym, ap, ◌∙◌, subst, append_assoc}
 use Rattle.fault.specs.Answers.{told}
 use Rattle.taker.specs.Paragraph.{Order, ends, finishes}
 use Rattle.history.specs.History.{to_end, to_finish, Step, asked, Reached, asks}
-use Rattle.history.specs.Settled.{finish_in, has_finished}
 use Rattle.exchange.proofs.Givens.{orders_append}
 use Rattle.exchange.proofs.exchange.write.Goals as goal
 
@@ -19,10 +17,11 @@ returns g c =
     let one : Step = asked (to_end 0) e in
     record {
       wrote = record {
-        steps = asked to_finish z ∷ (p.steps ++ one ∷ []);
+        ended = e;
+        mail = p.steps;
         grows = λ s h t. subst (λ (l : List Step). Reached s (asked to_finish z ∷ l) (means w)) (sym (append_assoc p.steps (one ∷ []) h)) (p.grows s (one ∷ h) (asks t (to_end 0) e c.end.ensures.answered c.end.ensures.changed (g.T.ParagraphTaker.lawful y)));
         are = ap (λ (l : List Order). l ++ finishes ∷ []) (orders_append p.steps (one ∷ [])) ∙ ap (λ (l : List Order). ends 0 ∷ l) p.are;
-        over = λ h k q. ap (λ (r : Result ℕ Fault). finish_in to_finish r (has_finished ((p.steps ++ one ∷ []) ++ h))) q;
+        first = p.first;
       };
       kept = g.T.ParagraphTaker.chained x y w c.end.ensures.kept c.send_mail.ensures.kept;
     }
