@@ -39,5 +39,5 @@ foot_told (Ok x) m n e c = accepted x (shown (after m finishes).foot) (verdict m
 foot_told (Err f) m n e c = tt
 
 -- the steps that composed a text are some steps
-pub composed_so : (w : ℕ) (m : Sink) (ps : List Paragraph) (o : Outcome) (wire : List ℕ) → ComposedAs w m ps o wire → ComposedSo w m wire
-composed_so w m ps o wire c = record { steps = c.steps; left = c.left; reached = c.reached; foot = c.foot }
+pub composed_so : {w : ℕ} {m : Sink} {ps : List Paragraph} {o : Outcome} {wire : List ℕ} → ComposedAs w m ps o wire → ComposedSo w m wire
+composed_so c = record { steps = c.steps; left = c.left; reached = c.reached; foot = c.foot }

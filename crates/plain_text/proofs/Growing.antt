@@ -11,13 +11,13 @@ pub grows_on : {E : Type 0} (m n p : Taker E) (j k : List Step) → Grows m n j 
 grows_on {E} m n p j k a b s h r = subst (λ (l : List Step). Reached s l p) (sym (append_assoc k j h)) (b s (j ++ h) (a s h r))
 
 -- by the steps of one paragraph; where the answer is a number, by a whole one
-pub handed_of : {E : Type 0} (m n : Taker E) (p : Paragraph) (r : Result ℕ Fault) → GrowsBy m n (HandedOne p r) → Handed m n p.depth p.text r
-handed_of m n p (Ok lines) g = record {
+pub handed_of : {E : Type 0} {m n : Taker E} (p : Paragraph) (r : Result ℕ Fault) → GrowsBy m n (HandedOne p r) → Handed m n p.depth p.text r
+handed_of p (Ok lines) g = record {
   steps = g.steps;
   grows = g.grows;
   accepted = λ l q. (g.so.0, g.so.1 ∙ ap (whole p.depth p.text g.so.0) (let is : lines ≡ l = cc in is));
 }
-handed_of m n p (Err f) g = record {
+handed_of p (Err f) g = record {
   steps = g.steps;
   grows = g.grows;
   accepted = λ l q. let z : ◌≡◌ {A = ℕ} 0 1 = cc in absurd (omega arith);

@@ -63,7 +63,7 @@ returns c =
       told = subst (FootTold c.write-outcome.result.finish) (sym foot) c.write-outcome.ensures.told;
     } in
     record {
-      wire = composed_so _ _ _ _ _ text;
+      wire = composed_so text;
       text = text;
       within = c.into_memory-memory.ensures.within;
       kept = ap₂ cut (sym long) mem ∙ c.write-outcome.ensures.kept.behind ∙ ap₂ cut long first;

@@ -30,7 +30,7 @@ returns-in-Err g c =
       so = at_open;
     } in
     record {
-      handed = handed_of _ _ p _ w;
+      handed = handed_of p _ w;
       whole = w;
       kept = e.kept;
     }
@@ -57,7 +57,7 @@ returns-in-None g c =
       so = ended_as p k r;
     } in
     record {
-      handed = handed_of _ _ p _ w;
+      handed = handed_of p _ w;
       whole = w;
       kept = g.T.ParagraphTaker.chained a d c.end.new.taker (g.T.ParagraphTaker.chained a b d o.kept f.kept) c.end.ensures.kept;
     }
@@ -83,7 +83,7 @@ returns-in-Some g c =
       so = subst (λ (w : Option Fault). Refused (record { depth = c.args.depth; text = bs }) (g.T.TakerFault.Refusal.means c.in-Some.f) (asked (to_give_up k) (Err (g.T.TakerFault.Refusal.means c.give_up.result)) ∷ fed bs n w ∷ asked (to_open c.args.depth) (Ok k) ∷ [])) (sym (ap (via g.T.TakerFault.Refusal.means) c.in-Some.is)) (in_text k n (g.T.TakerFault.Refusal.means c.give_up.result));
     } in
     record {
-      handed = handed_of _ _ p _ w;
+      handed = handed_of p _ w;
       whole = w;
       kept = g.T.ParagraphTaker.chained a d c.give_up.new.taker (g.T.ParagraphTaker.chained a b d o.kept f.kept) up.kept;
     }
