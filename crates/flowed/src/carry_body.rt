@@ -1,5 +1,5 @@
 // flowed carry.
-ghost use Rattle.std.specs.Prelude.{◌≡◌, ◌+◌, length, IfSome};
+ghost use Rattle.std.specs.Prelude.{◌≡◌, ◌+◌, ◌^◌, ◌≤◌, length, IfSome, IfNone};
 ghost use Rattle.line_ends.specs.LineEnds.{leading_dots};
 
 use crate::files;
@@ -10,9 +10,10 @@ use carry::carried::carry;
 use line_ends::count::count_leading_dots;
 use line_ends::crlf::to_crlf;
 
-// Room for the body with its dots doubled and the end mark.
+// Room for the body with its dots doubled and the end mark; none where 64 bits cannot tell it.
 fn room(body: &[u8]) -> Option<usize>
-    ensures { IfSome result (λ n. n ≡ length body.now + leading_dots 10 body.now + 3) }
+    ensures some { IfSome result (λ n. n ≡ length body.now + leading_dots 10 body.now + 3) }
+    ensures none { IfNone result (2 ^ 64 ≤ length body.now + leading_dots 10 body.now + 3) }
 {
     body.len()
         .checked_add(count_leading_dots(body))?

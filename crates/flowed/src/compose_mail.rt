@@ -1,5 +1,6 @@
 // flowed compose.
-ghost use Rattle.std.specs.Prelude.{◌≡◌, ◌+◌, ◌*◌, ◌≤◌, length, IfSome, IfOk, vec_len};
+ghost use Rattle.std.specs.Prelude.{◌≡◌, ◌+◌, ◌*◌, ◌^◌, ◌≤◌, length, IfSome, IfNone, IfOk, IfErr, vec_len};
+ghost use Rattle.flowed.specs.declared.trouble.Trouble.TheVariants.{Memory as no_memory};
 ghost use Rattle.flowed.specs.Compose.{ComposedIn, Mailed};
 
 use crate::compose_options::ComposeOptions;
@@ -8,9 +9,10 @@ use crate::mail_report::MailReport;
 use crate::trouble::Trouble;
 use compose_text::composed::{Composed, compose_bare, compose_dotted};
 
-// Twice the text, and some: enough for most mails.
+// Twice the text, and some: enough for most mails; none where 64 bits cannot tell it.
 fn first_size(text: &[u8]) -> Option<usize>
-    ensures { IfSome result (λ n. n ≡ length text.now * 2 + 1024) }
+    ensures some { IfSome result (λ n. n ≡ length text.now * 2 + 1024) }
+    ensures none { IfNone result (2 ^ 64 ≤ length text.now * 2 + 1024) }
 {
     text.len().checked_mul(2)?.checked_add(1024)
 }
@@ -26,13 +28,14 @@ fn compose(memory: Vec<u8>, options: &ComposeOptions, text: &[u8]) -> Composed
     }
 }
 
-// Into memory that is doubled until it holds the mail.
+// Into memory that is doubled until it holds the mail; fails for want of memory alone.
 fn compose_whole(
     rt: &HostRuntime,
     options: &ComposeOptions,
     text: &[u8],
 ) -> Result<(Composed, MailReport), Trouble>
     ensures within { IfOk result (λ p. p.0.len ≤ vec_len p.0.memory) }
+    ensures failed { IfErr result (λ e. e ≡ no_memory) }
     ensures mailed { IfOk result (λ p. Mailed options.now.dot options.now.width options.now.depths text.now p.0 p.1) }
 {
     let mut size = first_size(text);

@@ -1,4 +1,7 @@
 // What can go wrong, as it is told on standard error.
+ghost use Rattle.std.specs.Prelude.{◌≡◌};
+ghost use Rattle.flowed.specs.declared.trouble.Trouble.TheVariants.{Memory as no_memory, Io as by_io};
+
 use std::alloc::{AllocError, AllocFailed};
 use std::{fmt, io};
 
@@ -17,18 +20,24 @@ pub enum Trouble {
 }
 
 impl From<AllocError> for Trouble {
+    ghost from_gives = { λ e r. r ≡ no_memory };
+
     fn from(_error: AllocError) -> Trouble {
         Trouble::Memory
     }
 }
 
 impl<T: Drop> From<AllocFailed<T>> for Trouble {
+    ghost from_gives = { λ e r. r ≡ no_memory };
+
     fn from(_refused: AllocFailed<T>) -> Trouble {
         Trouble::Memory
     }
 }
 
 impl From<io::Error> for Trouble {
+    ghost from_gives = { λ e r. r ≡ by_io e };
+
     fn from(error: io::Error) -> Trouble {
         Trouble::Io(error)
     }

@@ -14,6 +14,7 @@ returns-then-not-lacks_memory c =
     let long : length (take r.len (vec_items r.memory)) ≡ r.len = length-take-le r.len (vec_items r.memory) (omega arith) in
     record {
       within = in_it;
+      failed = tt;
       mailed = record {
         memory = c.in_ok-memory.memory;
         composed = c.compose-composed.ensures.composed;
