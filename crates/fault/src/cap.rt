@@ -5,5 +5,5 @@ ghost use Rattle.fault.specs.Faults.{most};
 pub fn capped(n: usize) -> u32
     ensures { result ≡ min n most }
 {
-    if n < 4294967295 { n as u32 } else { 4294967295 }
+    u32::try_from(n).unwrap_or(u32::MAX)
 }

@@ -1,8 +1,9 @@
 // Why an order was refused.
 ghost use Rattle.std.specs.Prelude.{◌≡◌};
+ghost use Rattle.fault.specs.Faults.{leaves};
 ghost use Rattle.fault.specs.Numbers.{cause_number};
 
-#[derive(Clone, Copy)]
+#[derive(Clone, Copy, Debug, PartialEq, Eq)]
 pub enum Cause {
     // open while a paragraph is open
     ParagraphOpen = 1,
@@ -46,5 +47,12 @@ impl Cause {
         ensures { result ≡ cause_number self }
     {
         self as u8
+    }
+
+    // Whether a layer that refuses with it, of its own, is left as it was; any other cause shuts.
+    pub fn leaves(self) -> bool
+        ensures { result ≡ leaves self }
+    {
+        self.number() <= 6
     }
 }

@@ -1,11 +1,11 @@
 // A fault: the cause, the layer where it arose, how many layers passed it up, and the place.
 ghost use Rattle.std.specs.Prelude.{◌≡◌, ℕ};
-ghost use Rattle.fault.specs.Faults.{own as own_fault, raise};
+ghost use Rattle.fault.specs.Faults.{own as arises, raise};
 
 use crate::cause::Cause;
 use crate::layer::Layer;
 
-#[derive(Clone, Copy)]
+#[derive(Clone, Copy, Debug, PartialEq, Eq)]
 pub struct Fault {
     pub cause: Cause,
     pub layer: Layer,
@@ -18,7 +18,7 @@ pub struct Fault {
 impl Fault {
     // A fault where it arises.
     pub fn own(cause: Cause, layer: Layer, place: u32) -> Fault
-        ensures { result ≡ own_fault cause layer place }
+        ensures { result ≡ arises cause layer place }
     {
         Fault {
             cause,
@@ -33,10 +33,8 @@ impl Fault {
         ensures { result ≡ raise self }
     {
         Fault {
-            cause: self.cause,
-            layer: self.layer,
             level: self.level.saturating_add(1),
-            place: self.place,
+            ..self
         }
     }
 }

@@ -3,13 +3,10 @@
 
 pub mod cap;
 pub mod cause;
-pub mod composer;
-pub mod end;
 pub mod fault;
 pub mod layer;
-pub mod reader;
+pub mod layer_fault;
+pub mod own_fault;
 pub mod refusal;
 pub mod rise;
-pub mod stage;
-pub mod store;
-pub mod undo;
+mod words;

@@ -9,8 +9,5 @@ pub struct Passed<F>(pub F);
 pub fn from_below<T, F>(answer: Result<T, F>) -> Result<T, Passed<F>>
     ensures { result ≡ result_map_both (λ v. v) (λ f. record { 0 = f }) answer }
 {
-    match answer {
-        Ok(x) => Ok(x),
-        Err(f) => Err(Passed(f)),
-    }
+    answer.map_err(Passed)
 }

@@ -9,3 +9,4 @@ pub mod Adding
 pub mod Appending
 pub mod Bottoms
 pub mod Alikes
+pub mod Phases

@@ -1,6 +1,8 @@
 -- What a phase of the code means, by the fault that shut.
-use Rattle.std.specs.Prelude.{Bool, true, false, Some, None, Option}
+use Rattle.std.specs.Prelude.{Bool, true, false, Some, None, Option, Ok, Err, Result, ⊤}
 use Rattle.fault.specs.declared.fault.Fault.{Fault}
+use Rattle.fault.specs.declared.cause.Cause.{Cause}
+use Rattle.fault.specs.declared.cause.Cause.TheVariants.{AfterClose, AfterShut}
 use Rattle.orders.specs.declared.phase.Phase.{Phase}
 use Rattle.orders.specs.declared.phase.Phase.TheVariants.{Running, Closed, Shut}
 
@@ -10,7 +12,7 @@ phased f Closed = Closed
 phased f (Shut x) = Shut (f x)
 
 -- the standing fault
-abbrev pub stands : Phase Fault → Option Fault
+abbrev pub stands : {F : Type 0} → Phase F → Option F
 stands Running = None
 stands Closed = None
 stands (Shut f) = Some f
@@ -19,3 +21,9 @@ stands (Shut f) = Some f
 abbrev pub gone : Bool → Phase Fault
 gone true = Closed
 gone false = Running
+
+-- whether orders are still taken, or the cause that each is refused with
+abbrev pub running : {F : Type 0} → Phase F → Result ⊤ Cause
+running Running = Ok tt
+running Closed = Err AfterClose
+running (Shut f) = Err AfterShut

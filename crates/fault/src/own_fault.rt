@@ -1,21 +1,21 @@
-// The fault of an undoing stage. A pair of undoing stages is no layer, so the level is 0.
+// A fault told where it arises, by an end, a store or an undoing stage: its level is 0.
 ghost use Rattle.std.specs.Prelude.{◌≡◌};
-ghost use Rattle.fault.specs.Kinds.{undo_fault};
+ghost use Rattle.fault.specs.Kinds.{own_fault};
 
 use crate::cause::Cause;
 use crate::fault::Fault;
 use crate::layer::Layer;
 use crate::refusal::Refusal;
 
-#[derive(Clone, Copy)]
-pub struct UndoFault {
+#[derive(Clone, Copy, Debug, PartialEq, Eq)]
+pub struct OwnFault {
     pub cause: Cause,
     pub layer: Layer,
     pub place: u32,
 }
 
-impl Refusal for UndoFault {
-    ghost means = { undo_fault };
+impl Refusal for OwnFault {
+    ghost means = { own_fault };
 
     fn fault(&self) -> Fault {
         Fault::own(self.cause, self.layer, self.place)
