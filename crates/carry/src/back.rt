@@ -1,12 +1,12 @@
 // Wire bytes through an undoing stage into a sink, and the close behind them.
 ghost use Rattle.std.specs.Prelude.{◌≡◌, ℕ, []};
-ghost use Rattle.fault.specs.Kinds.{undo_fault};
+ghost use Rattle.fault.specs.Kinds.{own_fault};
 ghost use Rattle.orders.specs.Behind.{Behind};
 ghost use Rattle.undo.specs.Undoing.{fed};
 ghost use Rattle.carry.specs.Back.{stop_at, sink_at, meant_by, told_back, passed, returned, sink_left};
 
 use crate::stop::Stop;
-use fault::undo::UndoFault;
+use fault::own_fault::OwnFault;
 use sink::byte_sink::ByteSink;
 use undo::stage::UndoStage;
 
@@ -15,8 +15,8 @@ fn pass<U: UndoStage, S: ByteSink>(
     undoing: &mut U,
     sink: &mut S,
     b: u8,
-) -> Option<Stop<UndoFault, S::SinkFault>>
-    ensures stop { meant_by undo_fault S.SinkFault.Refusal.means result ≡ stop_at ((U.UndoStage.means undoing.old).takes [] b) (S.ByteSink.means sink.old) }
+) -> Option<Stop<OwnFault, S::SinkFault>>
+    ensures stop { meant_by own_fault S.SinkFault.Refusal.means result ≡ stop_at ((U.UndoStage.means undoing.old).takes [] b) (S.ByteSink.means sink.old) }
     ensures undoing { U.UndoStage.means undoing.new ≡ fed (U.UndoStage.means undoing.old) b }
     ensures sink { S.ByteSink.means sink.new ≡ sink_at ((U.UndoStage.means undoing.old).takes [] b) (S.ByteSink.means sink.old) }
     ensures behind { Behind (S.ByteSink.means sink.new).foot (S.ByteSink.memory sink.old) (S.ByteSink.memory sink.new) }
@@ -36,9 +36,9 @@ pub fn pass_all<U: UndoStage, S: ByteSink>(
     undoing: &mut U,
     sink: &mut S,
     wire: &[u8],
-) -> (usize, Option<Stop<UndoFault, S::SinkFault>>)
+) -> (usize, Option<Stop<OwnFault, S::SinkFault>>)
     ensures count { result.0 ≡ (passed (U.UndoStage.means undoing.old) (S.ByteSink.means sink.old) wire.now).count }
-    ensures stop { meant_by undo_fault S.SinkFault.Refusal.means result.1 ≡ (passed (U.UndoStage.means undoing.old) (S.ByteSink.means sink.old) wire.now).stop }
+    ensures stop { meant_by own_fault S.SinkFault.Refusal.means result.1 ≡ (passed (U.UndoStage.means undoing.old) (S.ByteSink.means sink.old) wire.now).stop }
     ensures undoing { U.UndoStage.means undoing.new ≡ (passed (U.UndoStage.means undoing.old) (S.ByteSink.means sink.old) wire.now).undoing }
     ensures sink { S.ByteSink.means sink.new ≡ (passed (U.UndoStage.means undoing.old) (S.ByteSink.means sink.old) wire.now).sink }
     ensures behind { Behind (S.ByteSink.means sink.new).foot (S.ByteSink.memory sink.old) (S.ByteSink.memory sink.new) }
@@ -56,8 +56,8 @@ pub fn bring_back<U: UndoStage, S: ByteSink>(
     undoing: &mut U,
     sink: &mut S,
     wire: &[u8],
-) -> Result<u32, Stop<UndoFault, S::SinkFault>>
-    ensures answered { told_back undo_fault S.SinkFault.Refusal.means result ≡ returned (passed (U.UndoStage.means undoing.old) (S.ByteSink.means sink.old) wire.now) }
+) -> Result<u32, Stop<OwnFault, S::SinkFault>>
+    ensures answered { told_back own_fault S.SinkFault.Refusal.means result ≡ returned (passed (U.UndoStage.means undoing.old) (S.ByteSink.means sink.old) wire.now) }
     ensures undoing { U.UndoStage.means undoing.new ≡ (passed (U.UndoStage.means undoing.old) (S.ByteSink.means sink.old) wire.now).undoing }
     ensures sink { S.ByteSink.means sink.new ≡ sink_left (passed (U.UndoStage.means undoing.old) (S.ByteSink.means sink.old) wire.now) }
     ensures behind { Behind (S.ByteSink.means sink.new).foot (S.ByteSink.memory sink.old) (S.ByteSink.memory sink.new) }

@@ -1,7 +1,7 @@
 // A body through a new dot stage into memory, and back through the undoing to a comparison with the body.
 ghost use Rattle.std.specs.Prelude.{◌≡◌, ℕ, ◌≤◌, true, List, length, take, drop, vec_len};
 ghost use Rattle.std.specs.List.{AllByRecursion};
-ghost use Rattle.fault.specs.Kinds.{end_fault, stage_fault, undo_fault};
+ghost use Rattle.fault.specs.Kinds.{own_fault, layer_fault};
 ghost use Rattle.orders.specs.declared.phase.Phase.TheVariants.{Running as Open};
 ghost use Rattle.orders.specs.Permits.{all_of};
 ghost use Rattle.orders.specs.Steps.{shown};
@@ -18,10 +18,9 @@ use crate::trip::Trip;
 use dot::dot::Dot;
 use ends::compare::CompareEnd;
 use ends::memory::MemoryEnd;
-use fault::end::EndFault;
+use fault::own_fault::OwnFault;
 use fault::refusal::Refusal;
-use fault::stage::StageFault;
-use fault::undo::UndoFault;
+use fault::layer_fault::LayerFault;
 use sink::byte_sink::ByteSink;
 use undo::stage::UndoStage;
 
@@ -30,7 +29,7 @@ pub struct Carried {
     pub memory: Vec<u8>,
     // how many bytes of the memory are the wire bytes
     pub len: usize,
-    pub trip: Trip<StageFault, UndoFault, EndFault>,
+    pub trip: Trip<LayerFault, OwnFault, OwnFault>,
 }
 
 // Wire bytes through the undoing, held to the body.
@@ -38,8 +37,8 @@ fn return_wire<U: UndoStage>(
     undoing: &mut U,
     body: &[u8],
     wire: &[u8],
-) -> Trip<StageFault, UndoFault, EndFault>
-    ensures { trip_meant stage_fault undo_fault end_fault result ≡ way_back (returned (passed (U.UndoStage.means undoing.old) (compare_means body.now 0 Open) wire.now)) }
+) -> Trip<LayerFault, OwnFault, OwnFault>
+    ensures { trip_meant layer_fault own_fault own_fault result ≡ way_back (returned (passed (U.UndoStage.means undoing.old) (compare_means body.now 0 Open) wire.now)) }
 {
     let mut end = CompareEnd::new(body);
     match bring_back(undoing, &mut end, wire) {
@@ -53,7 +52,7 @@ fn return_wire<U: UndoStage>(
 // bytes are its lines, stuffed, and the end mark.
 pub fn carry(memory: Vec<u8>, body: &[u8]) -> Carried
     ensures wire { take result.len result.memory.items ≡ (reach (new_stage memory) (down body.now true) true).list }
-    ensures trip { trip_meant stage_fault undo_fault end_fault result.trip ≡ trip_of (reach (new_stage memory) (down body.now true) true).fault (shown body.now) }
+    ensures trip { trip_meant layer_fault own_fault own_fault result.trip ≡ trip_of (reach (new_stage memory) (down body.now true) true).fault (shown body.now) }
     ensures kept { drop result.len result.memory.items ≡ drop result.len memory.items }
     ensures within { result.len ≤ vec_len result.memory }
     ensures stuffed { (ls : List (List ℕ)) → AllByRecursion Clean ls → body.now ≡ text_of ls → length (stuffed ls) ≤ vec_len memory → reach (new_stage memory) (down body.now true) true ≡ all_of (stuffed ls) }

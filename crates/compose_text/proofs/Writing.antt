@@ -1,8 +1,8 @@
 -- The finish behind the paragraphs.
 use Rattle.std.proofs.Common.{◌≡◌, ℕ, not, List, ◌++◌, is_some, Some, None, Ok, Err, Option, Result, sym, refl, ap, ◌∙◌, arith}
 use Rattle.fault.specs.declared.fault.Fault.{Fault}
-use Rattle.fault.specs.declared.composer.ComposerFault.{ComposerFault}
-use Rattle.fault.specs.Kinds.{composer_fault}
+use Rattle.fault.specs.declared.layer_fault.LayerFault.{LayerFault}
+use Rattle.fault.specs.Kinds.{layer_fault}
 use Rattle.fault.specs.Answers.{told, answer}
 use Rattle.orders.specs.Steps.{after, verdict, answered, shown}
 use Rattle.sink.specs.Sink.{Sink}
@@ -16,25 +16,25 @@ use Rattle.compose_text.specs.declared.composed.Outcome.{Outcome}
 use Rattle.compose_text.specs.Composed.{finish_step, Written, FootTold, ComposedSo, ComposedAs}
 
 -- a finish lists no paragraph
-finish_settled : (f : Option (Result ℕ ComposerFault)) (h : List Step) → settled_paragraphs (finish_step f ++ h) ≡ settled_paragraphs h
+finish_settled : (f : Option (Result ℕ LayerFault)) (h : List Step) → settled_paragraphs (finish_step f ++ h) ≡ settled_paragraphs h
 finish_settled None h = refl
 finish_settled (Some (Ok n)) h = refl
 finish_settled (Some (Err f)) h = refl
 
-pub written : (ps : List Paragraph) (o : Outcome) (h : List Step) → HandedAll ps o.handed.paragraphs o.handed.lines (by_fault composer_fault o.handed.refused) h → is_some o.finish ≡ not (is_some o.handed.refused) → Written ps o (finish_step o.finish ++ h)
+pub written : (ps : List Paragraph) (o : Outcome) (h : List Step) → HandedAll ps o.handed.paragraphs o.handed.lines (by_fault layer_fault o.handed.refused) h → is_some o.finish ≡ not (is_some o.handed.refused) → Written ps o (finish_step o.finish ++ h)
 written ps o h handed finished = record {
   paragraphs = h;
   handed = handed;
   finished = finished;
   steps = refl;
-  settled = finish_settled o.finish h ∙ handed_settled ps o.handed.paragraphs o.handed.lines (by_fault composer_fault o.handed.refused) h handed;
+  settled = finish_settled o.finish h ∙ handed_settled ps o.handed.paragraphs o.handed.lines (by_fault layer_fault o.handed.refused) h handed;
 }
 
 accepted : (n x : ℕ) (v : Option Fault) → ◌≡◌ {A = Result ℕ Fault} (Ok n) (answer x v) → n ≡ x
 accepted n x None e = cc
 accepted n x (Some f) e = let z : ◌≡◌ {A = ℕ} 0 1 = cc in absurd (omega arith)
 
-pub foot_told : (r : Result ℕ ComposerFault) (m n : Taker ℕ) → told composer_fault r ≡ answered m finishes → n ≡ after m finishes → FootTold (Some r) n.foot
+pub foot_told : (r : Result ℕ LayerFault) (m n : Taker ℕ) → told layer_fault r ≡ answered m finishes → n ≡ after m finishes → FootTold (Some r) n.foot
 foot_told (Ok x) m n e c = accepted x (shown (after m finishes).foot) (verdict m finishes) e ∙ ap (λ (l : Taker ℕ). shown l.foot) (sym c)
 foot_told (Err f) m n e c = tt
 

@@ -1,8 +1,8 @@
 -- What stands in memory once a text was composed.
 use Rattle.std.specs.Prelude.{◌≡◌, ℕ, Bool, true, false, not, List, [], ◌∷◌, ◌++◌, map, take, is_some, Some, None, Ok, Err, Option, Result, Vec}
 use Rattle.std.specs.declared.alloc.Global.{Global}
-use Rattle.fault.specs.declared.composer.ComposerFault.{ComposerFault}
-use Rattle.fault.specs.Kinds.{composer_fault}
+use Rattle.fault.specs.declared.layer_fault.LayerFault.{LayerFault}
+use Rattle.fault.specs.Kinds.{layer_fault}
 use Rattle.fault.specs.Answers.{told}
 use Rattle.orders.specs.declared.phase.Phase.TheVariants.{Running}
 use Rattle.orders.specs.Steps.{shown}
@@ -32,21 +32,21 @@ pile true v = dotted v
 pile false v = bare v
 
 -- the finish, with its answer
-abbrev pub finish_step : Option (Result ℕ ComposerFault) → List Step
+abbrev pub finish_step : Option (Result ℕ LayerFault) → List Step
 finish_step None = []
-finish_step (Some r) = asked to_finish (told composer_fault r) ∷ []
+finish_step (Some r) = asked to_finish (told layer_fault r) ∷ []
 
 -- the paragraphs handed on, to the first that was refused, and then the finish, unless one was refused
 pub record Written (ps : List Paragraph) (o : Outcome) (k : List Step) : Type 0 where
   pub paragraphs : List Step
-  pub handed : HandedAll ps o.handed.paragraphs o.handed.lines (by_fault composer_fault o.handed.refused) paragraphs
+  pub handed : HandedAll ps o.handed.paragraphs o.handed.lines (by_fault layer_fault o.handed.refused) paragraphs
   pub finished : is_some o.finish ≡ not (is_some o.handed.refused)
   pub steps : k ≡ finish_step o.finish ++ paragraphs
   -- those that were accepted settle
   pub settled : settled_paragraphs k ≡ map settle (take o.handed.paragraphs ps)
 
 -- an accepted finish answers the foot's length
-abbrev pub FootTold : Option (Result ℕ ComposerFault) → List ℕ → Type 0
+abbrev pub FootTold : Option (Result ℕ LayerFault) → List ℕ → Type 0
 FootTold (Some (Ok n)) foot = n ≡ shown foot
 FootTold (Some (Err f)) foot = Unit {0}
 FootTold None foot = Unit {0}

@@ -9,7 +9,7 @@ ghost use Rattle.compose_text.specs.Composed.{bare, dotted, Written, FootTold, C
 use composer::composer::Composer;
 use dot::dot::Dot;
 use ends::memory::MemoryEnd;
-use fault::composer::ComposerFault;
+use fault::layer_fault::LayerFault;
 use plain_text::line::Depths;
 use plain_text::lines::{Handed, hand_lines};
 use sink::byte_sink::ByteSink;
@@ -18,8 +18,8 @@ use taker::paragraph_taker::ParagraphTaker;
 // What became of a text's lines, and of the finish behind them; none where a line was refused.
 #[derive(Clone, Copy)]
 pub struct Outcome {
-    pub handed: Handed<ComposerFault>,
-    pub finish: Option<Result<u32, ComposerFault>>,
+    pub handed: Handed<LayerFault>,
+    pub finish: Option<Result<u32, LayerFault>>,
 }
 
 // All lines, and then the finish.

@@ -3,11 +3,11 @@ use Rattle.std.proofs.Common.{◌≡◌, ℕ, Bool, true, false, cond, not, eqb,
 use Rattle.fault.specs.declared.fault.Fault.{Fault}
 use Rattle.fault.specs.declared.cause.Cause.{Cause}
 use Rattle.fault.specs.declared.cause.Cause.TheVariants.{AfterClose, AfterShut, WrongNumber, GivenUp}
-use Rattle.fault.specs.declared.composer.ComposerFault.{ComposerFault}
+use Rattle.fault.specs.declared.layer_fault.LayerFault.{LayerFault}
 use Rattle.fault.specs.declared.layer.Layer.TheVariants.{Composer as composer_layer}
 use Rattle.fault.specs.Faults.{own, leaves}
 use Rattle.fault.specs.Answers.{raised}
-use Rattle.fault.specs.Kinds.{composer_fault}
+use Rattle.fault.specs.Kinds.{layer_fault}
 use Rattle.orders.specs.declared.phase.Phase.{Phase}
 use Rattle.orders.specs.declared.phase.Phase.TheVariants.{Running, Closed, Shut}
 use Rattle.orders.specs.Phases.{phased, gone}
@@ -33,38 +33,38 @@ kept m n o x y e b =
     let g = after_grows m o in
     record { grows = record { more = g.more; grown = ap (λ (t : Taker ℕ). t.foot) e ∙ g.grown }; behind = b }
 
-module _ (m : Sink) (s : Composing) (ph : Phase ComposerFault) (n : ℕ) (o : Order) where
+module _ (m : Sink) (s : Composing) (ph : Phase LayerFault) (n : ℕ) (o : Order) where
   abbrev here : Taker ℕ
-  here = layer_means composer m s (phased composer_fault ph) n
+  here = layer_means composer m s (phased layer_fault ph) n
 
   -- the composer was closed or shut
-  pub was_over : (f : Fault) → Some f ≡ over_fault (phased composer_fault ph) n → Did here here o (Some f)
+  pub was_over : (f : Fault) → Some f ≡ over_fault (phased layer_fault ph) n → Did here here o (Some f)
   was_over f e = go ph refl e
     where
-      go : (x : Phase ComposerFault) → ph ≡ x → Some f ≡ over_fault (phased composer_fault x) n → Did here here o (Some f)
+      go : (x : Phase LayerFault) → ph ≡ x → Some f ≡ over_fault (phased layer_fault x) n → Did here here o (Some f)
       go Running q h = absurd (some_none h)
-      go Closed q h = let is : own AfterClose composer_layer n ≡ f = sym (same_some h) in rw (← is) (in_closed composer composer_fault m s ph n o q)
-      go (Shut x) q h = let is : own AfterShut composer_layer n ≡ f = sym (same_some h) in rw (← is) (in_shut composer composer_fault m s ph n o x q)
+      go Closed q h = let is : own AfterClose composer_layer n ≡ f = sym (same_some h) in rw (← is) (in_closed composer layer_fault m s ph n o q)
+      go (Shut x) q h = let is : own AfterShut composer_layer n ≡ f = sym (same_some h) in rw (← is) (in_shut composer layer_fault m s ph n o x q)
 
-  pub still_running : None ≡ over_fault (phased composer_fault ph) n → ph ≡ Running
+  pub still_running : None ≡ over_fault (phased layer_fault ph) n → ph ≡ Running
   still_running e = go ph refl e
     where
-      go : (x : Phase ComposerFault) → ph ≡ x → None ≡ over_fault (phased composer_fault x) n → ph ≡ Running
+      go : (x : Phase LayerFault) → ph ≡ x → None ≡ over_fault (phased layer_fault x) n → ph ≡ Running
       go Running q h = q
       go Closed q h = absurd (some_none (sym h))
       go (Shut x) q h = absurd (some_none (sym h))
 
   module _ (run : ph ≡ Running) where
     -- a refusal of its own
-    pub was_refused : (c : Cause) → refusal s o ≡ Some c → (r : ComposerFault) → composer_fault r ≡ own c composer_layer n → Did here (layer_means composer m s (phased composer_fault (refused_phase c r ph)) n) o (Some (composer_fault r))
+    pub was_refused : (c : Cause) → refusal s o ≡ Some c → (r : LayerFault) → layer_fault r ≡ own c composer_layer n → Did here (layer_means composer m s (phased layer_fault (refused_phase c r ph)) n) o (Some (layer_fault r))
     was_refused c e r f = go (leaves c) refl
       where
         stop : moves s o ≡ stops c
         stop = ap (λ (x : Option Cause). unless x (sends (bytes_of s o) (next_state s o))) e
 
-        go : (x : Bool) → leaves c ≡ x → Did here (layer_means composer m s (phased composer_fault (cond x ph (Shut r))) n) o (Some (composer_fault r))
-        go true q = rw f (in_mild composer composer_fault m s ph n o run c stop q)
-        go false q = in_own composer composer_fault m s ph n o run c stop q (composer_fault r) f s
+        go : (x : Bool) → leaves c ≡ x → Did here (layer_means composer m s (phased layer_fault (cond x ph (Shut r))) n) o (Some (layer_fault r))
+        go true q = rw f (in_mild composer layer_fault m s ph n o run c stop q)
+        go false q = in_own composer layer_fault m s ph n o run c stop q (layer_fault r) f s
 
     module _ (none : refusal s o ≡ None) (m' : Sink) (r : m' ≡ sent m (down (bytes_of s o) (closes o))) where
       on : moves s o ≡ sends (bytes_of s o) (next_state s o)
@@ -76,12 +76,12 @@ module _ (m : Sink) (s : Composing) (ph : Phase ComposerFault) (n : ℕ) (o : Or
       -- accepted, also below
       pub was_accepted : fault ≡ None → (s' : Composing) → s' ≡ next_state s o → (ph' : Phase Fault) → ph' ≡ gone (closes o) → (n' : ℕ) → n' ≡ place_on (counts o) n → Did here (layer_means composer m' s' ph' n') o None
       was_accepted h s' q ph' p n' t =
-          let d = in_ok composer composer_fault m s ph n o run (bytes_of s o) (next_state s o) on m' r composer_stirs h ph' p n' t in
+          let d = in_ok composer layer_fault m s ph n o run (bytes_of s o) (next_state s o) on m' r composer_stirs h ph' p n' t in
           record { tells = d.tells; leads = ap (λ (x : Composing). layer_means composer m' x ph' n') q ∙ d.leads }
 
       -- refused below
       pub was_stopped : (f : Fault) → fault ≡ Some f → (u : Composing) → Did here (layer_means composer m' u (Shut f) n) o (Some f)
-      was_stopped f h u = in_err composer composer_fault m s ph n o run (bytes_of s o) (next_state s o) on m' r f h u
+      was_stopped f h u = in_err composer layer_fault m s ph n o run (bytes_of s o) (next_state s o) on m' r f h u
 
 -- giving up, with the right number
 pub up_cause : (i n : ℕ) (p : Option Within) (r : Option Cause) → r ≡ end_refusal i n p → (x : Cause) → x ≡ unwrap_or r GivenUp → give_up_refusal i n p ≡ Some x
@@ -102,13 +102,13 @@ module _ {S : Type 0} (below : S → Sink) (memory : S → List ℕ) (c : Compos
   abbrev m : Sink
   m = below c.below
 
-  pub came_over : (f : ComposerFault) → Some (composer_fault f) ≡ over_fault (phased composer_fault c.phase) c.place → Came below memory c c o (Some (composer_fault f))
+  pub came_over : (f : LayerFault) → Some (layer_fault f) ≡ over_fault (phased layer_fault c.phase) c.place → Came below memory c c o (Some (layer_fault f))
   came_over f e =
-      let d = was_over m (state_of c) c.phase c.place o (composer_fault f) e in
+      let d = was_over m (state_of c) c.phase c.place o (layer_fault f) e in
       record { tells = d.tells; leads = d.leads; kept = keeps_same m.foot (memory c.below) }
 
-  pub came_refused : None ≡ over_fault (phased composer_fault c.phase) c.place → (x : Cause) → refusal (state_of c) o ≡ Some x → (f : ComposerFault) → composer_fault f ≡ own x composer_layer c.place → (d : Composer S) →
-      d ≡ record { below = c.below; opened = c.opened; paragraph = c.paragraph; phase = refused_phase x f c.phase; place = c.place } → Came below memory c d o (Some (composer_fault f))
+  pub came_refused : None ≡ over_fault (phased layer_fault c.phase) c.place → (x : Cause) → refusal (state_of c) o ≡ Some x → (f : LayerFault) → layer_fault f ≡ own x composer_layer c.place → (d : Composer S) →
+      d ≡ record { below = c.below; opened = c.opened; paragraph = c.paragraph; phase = refused_phase x f c.phase; place = c.place } → Came below memory c d o (Some (layer_fault f))
   came_refused run x e f q d is =
       let k = was_refused m (state_of c) c.phase c.place o (still_running m (state_of c) c.phase c.place o run) x e f q in
       record {

@@ -5,7 +5,7 @@ use Rattle.fault.specs.declared.cause.Cause.{Cause}
 use Rattle.fault.specs.declared.cause.Cause.TheVariants.{AfterClose, AfterShut, BadStart}
 use Rattle.fault.specs.declared.layer.Layer.TheVariants.{Composer as composer_layer}
 use Rattle.fault.specs.Faults.{own, leaves}
-use Rattle.fault.specs.Kinds.{composer_fault}
+use Rattle.fault.specs.Kinds.{layer_fault}
 use Rattle.orders.specs.declared.phase.Phase.{Phase}
 use Rattle.orders.specs.declared.phase.Phase.TheVariants.{Running, Closed, Shut}
 use Rattle.orders.specs.Phases.{phased}
@@ -21,7 +21,7 @@ state_of c = record { width = c.paragraph.held.width; opened = c.opened; paragra
 
 -- over what the sink below means
 abbrev pub means_of : {S : Type 0} → (S → Sink) → Composer S → Taker ℕ
-means_of below c = layer_means composer (below c.below) (state_of c) (phased composer_fault c.phase) c.place
+means_of below c = layer_means composer (below c.below) (state_of c) (phased layer_fault c.phase) c.place
 
 -- a width from 20 to 998, over a fresh sink
 abbrev pub good_start : ℕ → Bool → Bool

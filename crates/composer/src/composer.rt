@@ -1,13 +1,14 @@
 // The composer: paragraphs go down as wire lines.
 ghost use Rattle.std.specs.Prelude.{◌≡◌, ◌≤◌, true};
-ghost use Rattle.fault.specs.Kinds.{composer_fault};
+ghost use Rattle.fault.specs.Kinds.{layer_fault};
 ghost use Rattle.orders.specs.Phases.{phased};
 ghost use Rattle.composer.specs.Mails.{Composes};
 ghost use Rattle.composer.specs.Composers.{means_of, new_means, born, good_start};
 
 use crate::paragraph::Paragraph;
 use fault::cause::Cause;
-use fault::composer::ComposerFault;
+use fault::layer::Layer;
+use fault::layer_fault::LayerFault;
 use orders::phase::Phase;
 use sink::byte_sink::ByteSink;
 
@@ -20,19 +21,19 @@ pub struct Composer<S> {
     // how many paragraphs were opened
     opened: u32,
     paragraph: Paragraph,
-    phase: Phase<ComposerFault>,
+    phase: Phase<LayerFault>,
     // how many text bytes were accepted
     place: u32,
 }
 
 // Born shut if the width is not from 20 to 998, or the sink below is not fresh.
-fn first_phase(width: u32, fresh: bool) -> Phase<ComposerFault>
-    ensures { phased composer_fault result ≡ born (good_start width fresh) }
+fn first_phase(width: u32, fresh: bool) -> Phase<LayerFault>
+    ensures { phased layer_fault result ≡ born (good_start width fresh) }
 {
     if width >= 20 && width <= 998 && fresh {
         Phase::Running
     } else {
-        Phase::Shut(ComposerFault::own(Cause::BadStart, 0))
+        Phase::Shut(LayerFault::own(Cause::BadStart, Layer::Composer, 0))
     }
 }
 

@@ -1,7 +1,7 @@
 // Lines sent down.
 ghost use Rattle.std.specs.Prelude.{◌≡◌, true, [], ◌∷◌, ◌++◌, replicate};
 ghost use Rattle.fault.specs.Answers.{told, answer, raised};
-ghost use Rattle.fault.specs.Kinds.{composer_fault};
+ghost use Rattle.fault.specs.Kinds.{layer_fault};
 ghost use Rattle.orders.specs.Steps.{shown};
 ghost use Rattle.orders.specs.Lists.{sent, sent_fault};
 ghost use Rattle.orders.specs.Behind.{Behind};
@@ -11,13 +11,13 @@ ghost use Rattle.folding.specs.WireLine.{stuffing as stuffing_by, stuffed, wire_
 ghost use Rattle.composer.specs.Sending.{WentDown};
 
 use crate::held_line::breaks::is_stuffed;
-use fault::composer::ComposerFault;
+use fault::layer_fault::LayerFault;
 use fault::rise::from_below;
 use sink::byte_sink::ByteSink;
 use sink::feed::feed;
 
-fn send_bytes<S: ByteSink>(below: &mut S, bytes: &[u8]) -> Result<(), ComposerFault>
-    ensures { WentDown S.ByteSink.means S.ByteSink.memory below.old below.new bytes.now (told composer_fault result) }
+fn send_bytes<S: ByteSink>(below: &mut S, bytes: &[u8]) -> Result<(), LayerFault>
+    ensures { WentDown S.ByteSink.means S.ByteSink.memory below.old below.new bytes.now (told layer_fault result) }
 {
     let (_, fault) = feed(below, bytes);
     let answer = match fault {
@@ -28,16 +28,16 @@ fn send_bytes<S: ByteSink>(below: &mut S, bytes: &[u8]) -> Result<(), ComposerFa
     Ok(())
 }
 
-fn send_byte<S: ByteSink>(below: &mut S, b: u8) -> Result<(), ComposerFault>
-    ensures { WentDown S.ByteSink.means S.ByteSink.memory below.old below.new (b ∷ []) (told composer_fault result) }
+fn send_byte<S: ByteSink>(below: &mut S, b: u8) -> Result<(), LayerFault>
+    ensures { WentDown S.ByteSink.means S.ByteSink.memory below.old below.new (b ∷ []) (told layer_fault result) }
 {
     from_below(below.put(b))?;
     Ok(())
 }
 
 // The same byte, so many times.
-fn send_repeated<S: ByteSink>(below: &mut S, b: u8, times: usize) -> Result<(), ComposerFault>
-    ensures { WentDown S.ByteSink.means S.ByteSink.memory below.old below.new (replicate times b) (told composer_fault result) }
+fn send_repeated<S: ByteSink>(below: &mut S, b: u8, times: usize) -> Result<(), LayerFault>
+    ensures { WentDown S.ByteSink.means S.ByteSink.memory below.old below.new (replicate times b) (told layer_fault result) }
 {
     for i in 0..times {
         send_byte(below, b)?;
@@ -69,8 +69,8 @@ pub(crate) fn send_line<S: ByteSink>(
     depth: usize,
     piece: &[u8],
     spaces: usize,
-) -> Result<(), ComposerFault>
-    ensures { WentDown S.ByteSink.means S.ByteSink.memory below.old below.new (wire_line depth (piece.now ++ replicate spaces space)) (told composer_fault result) }
+) -> Result<(), LayerFault>
+    ensures { WentDown S.ByteSink.means S.ByteSink.memory below.old below.new (wire_line depth (piece.now ++ replicate spaces space)) (told layer_fault result) }
 {
     send_repeated(below, 0x3E, depth)?;
     send_repeated(below, 0x20, stuffing(depth, piece, spaces))?;
@@ -80,8 +80,8 @@ pub(crate) fn send_line<S: ByteSink>(
 }
 
 // The close, and the foot's length.
-pub(crate) fn send_close<S: ByteSink>(below: &mut S) -> Result<u32, ComposerFault>
-    ensures answered { told composer_fault result ≡ answer (shown (S.ByteSink.means below.new).foot) (raised (sent_fault (S.ByteSink.means below.old) (down [] true))) }
+pub(crate) fn send_close<S: ByteSink>(below: &mut S) -> Result<u32, LayerFault>
+    ensures answered { told layer_fault result ≡ answer (shown (S.ByteSink.means below.new).foot) (raised (sent_fault (S.ByteSink.means below.old) (down [] true))) }
     ensures changed { S.ByteSink.means below.new ≡ sent (S.ByteSink.means below.old) (down [] true) }
     ensures behind { Behind (S.ByteSink.means below.new).foot (S.ByteSink.memory below.old) (S.ByteSink.memory below.new) }
 {

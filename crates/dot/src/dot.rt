@@ -1,7 +1,7 @@
 // The dot stage: a 2E at a line beginning goes out twice, and close adds the end mark.
 ghost use Rattle.std.specs.Prelude.{◌≡◌, ℕ, true, false};
 ghost use Rattle.fault.specs.Answers.{told, answer, raised};
-ghost use Rattle.fault.specs.Kinds.{stage_fault};
+ghost use Rattle.fault.specs.Kinds.{layer_fault};
 ghost use Rattle.orders.specs.declared.phase.Phase.TheVariants.{Running as Open};
 ghost use Rattle.orders.specs.Steps.{shown};
 ghost use Rattle.orders.specs.Lists.{sent, sent_fault};
@@ -20,7 +20,7 @@ use crate::undot::DotUndo;
 use fault::cause::Cause;
 use fault::layer::Layer;
 use fault::rise::from_below;
-use fault::stage::StageFault;
+use fault::layer_fault::LayerFault;
 use orders::phase::Phase;
 use sink::byte_sink::ByteSink;
 use undo::pair::Pair;
@@ -48,8 +48,8 @@ fn doubles(line: LineState, b: u8) -> bool
 }
 
 // One byte down, or the same byte twice.
-fn send<S: ByteSink>(below: &mut S, b: u8, twice: bool) -> Result<(), StageFault>
-    ensures answered { told stage_fault result ≡ answer tt (raised (sent_fault (S.ByteSink.means below.old) (down (doubled twice b) false))) }
+fn send<S: ByteSink>(below: &mut S, b: u8, twice: bool) -> Result<(), LayerFault>
+    ensures answered { told layer_fault result ≡ answer tt (raised (sent_fault (S.ByteSink.means below.old) (down (doubled twice b) false))) }
     ensures changed { S.ByteSink.means below.new ≡ sent (S.ByteSink.means below.old) (down (doubled twice b) false) }
     ensures behind { Behind (S.ByteSink.means below.new).foot (S.ByteSink.memory below.old) (S.ByteSink.memory below.new) }
 {
@@ -63,8 +63,8 @@ fn send<S: ByteSink>(below: &mut S, b: u8, twice: bool) -> Result<(), StageFault
 }
 
 // The end mark down, and then the close.
-fn send_end<S: ByteSink>(below: &mut S) -> Result<u32, StageFault>
-    ensures answered { told stage_fault result ≡ answer (shown (S.ByteSink.means below.new).foot) (raised (sent_fault (S.ByteSink.means below.old) (down end_mark true))) }
+fn send_end<S: ByteSink>(below: &mut S) -> Result<u32, LayerFault>
+    ensures answered { told layer_fault result ≡ answer (shown (S.ByteSink.means below.new).foot) (raised (sent_fault (S.ByteSink.means below.old) (down end_mark true))) }
     ensures changed { S.ByteSink.means below.new ≡ sent (S.ByteSink.means below.old) (down end_mark true) }
     ensures behind { Behind (S.ByteSink.means below.new).foot (S.ByteSink.memory below.old) (S.ByteSink.memory below.new) }
 {
@@ -79,7 +79,7 @@ fn send_end<S: ByteSink>(below: &mut S) -> Result<u32, StageFault>
 pub struct Dot<S> {
     below: S,
     line: LineState,
-    phase: Phase<StageFault>,
+    phase: Phase<LayerFault>,
     place: u32,
 }
 
@@ -119,25 +119,25 @@ impl<S: ByteSink> Dot<S> {
 }
 
 impl<S: ByteSink> ByteSink for Dot<S> {
-    type SinkFault = StageFault;
+    type SinkFault = LayerFault;
 
     type Undo = Pair<S::Undo, DotUndo>;
 
-    ghost means = { λ s. layer_means dot_machine (S.ByteSink.means s.below) s.line (phased stage_fault s.phase) s.place };
+    ghost means = { λ s. layer_means dot_machine (S.ByteSink.means s.below) s.line (phased layer_fault s.phase) s.place };
 
-    ghost lawful = { λ s. dot_lawful (S.ByteSink.means s.below) s.line (phased stage_fault s.phase) s.place (S.ByteSink.lawful s.below) };
+    ghost lawful = { λ s. dot_lawful (S.ByteSink.means s.below) s.line (phased layer_fault s.phase) s.place (S.ByteSink.lawful s.below) };
 
     ghost memory = { λ s. S.ByteSink.memory s.below };
 
-    fn put(&mut self, b: u8) -> Result<(), StageFault> {
+    fn put(&mut self, b: u8) -> Result<(), LayerFault> {
         let place = self.place;
         match self.phase {
-            Phase::Closed => Err(StageFault::own(Cause::AfterClose, Layer::Dot, place)),
-            Phase::Shut(_) => Err(StageFault::own(Cause::AfterShut, Layer::Dot, place)),
+            Phase::Closed => Err(LayerFault::own(Cause::AfterClose, Layer::Dot, place)),
+            Phase::Shut(_) => Err(LayerFault::own(Cause::AfterShut, Layer::Dot, place)),
             Phase::Running => {
                 let line = self.line;
                 let Some(after) = next_line(line, b) else {
-                    let f = StageFault::own(Cause::Unpaired, Layer::Dot, place);
+                    let f = LayerFault::own(Cause::Unpaired, Layer::Dot, place);
                     self.phase = Phase::Shut(f);
                     return Err(f);
                 };
@@ -156,11 +156,11 @@ impl<S: ByteSink> ByteSink for Dot<S> {
         }
     }
 
-    fn close(&mut self) -> Result<u32, StageFault> {
+    fn close(&mut self) -> Result<u32, LayerFault> {
         let place = self.place;
         match self.phase {
-            Phase::Closed => Err(StageFault::own(Cause::AfterClose, Layer::Dot, place)),
-            Phase::Shut(_) => Err(StageFault::own(Cause::AfterShut, Layer::Dot, place)),
+            Phase::Closed => Err(LayerFault::own(Cause::AfterClose, Layer::Dot, place)),
+            Phase::Shut(_) => Err(LayerFault::own(Cause::AfterShut, Layer::Dot, place)),
             Phase::Running => match self.line {
                 LineState::Start => match send_end(&mut self.below) {
                     Ok(n) => {
@@ -173,7 +173,7 @@ impl<S: ByteSink> ByteSink for Dot<S> {
                     }
                 },
                 _ => {
-                    let f = StageFault::own(Cause::Incomplete, Layer::Dot, place);
+                    let f = LayerFault::own(Cause::Incomplete, Layer::Dot, place);
                     self.phase = Phase::Shut(f);
                     Err(f)
                 }

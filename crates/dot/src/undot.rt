@@ -1,7 +1,7 @@
 // The undoing of the dot stage.
 ghost use Rattle.std.specs.Prelude.{◌≡◌, None};
 ghost use Rattle.fault.specs.Answers.{via};
-ghost use Rattle.fault.specs.Kinds.{undo_fault};
+ghost use Rattle.fault.specs.Kinds.{own_fault};
 ghost use Rattle.undo.specs.Undoing.{held_by};
 ghost use Rattle.dot.specs.declared.undo_state.UndoState.TheVariants.{Start as before_all};
 ghost use Rattle.dot.specs.Undot.{undot, undotting, in_line};
@@ -9,7 +9,7 @@ ghost use Rattle.dot.specs.Undot.{undot, undotting, in_line};
 use crate::undo_state::UndoState;
 use fault::cause::Cause;
 use fault::layer::Layer;
-use fault::undo::UndoFault;
+use fault::own_fault::OwnFault;
 use undo::stage::UndoStage;
 
 // A byte of a line.
@@ -44,7 +44,7 @@ pub struct DotUndo {
     state: UndoState,
     place: u32,
     // the refusal, which it repeats
-    standing: Option<UndoFault>,
+    standing: Option<OwnFault>,
 }
 
 impl DotUndo {
@@ -60,9 +60,9 @@ impl DotUndo {
 }
 
 impl UndoStage for DotUndo {
-    ghost means = { λ s. held_by (via undo_fault s.standing) (undotting s.place s.state) };
+    ghost means = { λ s. held_by (via own_fault s.standing) (undotting s.place s.state) };
 
-    fn take(&mut self, b: u8) -> Result<Option<u8>, UndoFault> {
+    fn take(&mut self, b: u8) -> Result<Option<u8>, OwnFault> {
         if let Some(f) = self.standing {
             return Err(f);
         }
@@ -73,7 +73,7 @@ impl UndoStage for DotUndo {
                 Ok(given)
             }
             Err(cause) => {
-                let f = UndoFault {
+                let f = OwnFault {
                     cause,
                     layer: Layer::DotUndoing,
                     place: self.place,
@@ -84,13 +84,13 @@ impl UndoStage for DotUndo {
         }
     }
 
-    fn may_stop(&self) -> Result<(), UndoFault> {
+    fn may_stop(&self) -> Result<(), OwnFault> {
         if let Some(f) = self.standing {
             return Err(f);
         }
         match self.state {
             UndoState::Ended => Ok(()),
-            _ => Err(UndoFault {
+            _ => Err(OwnFault {
                 cause: Cause::Incomplete,
                 layer: Layer::DotUndoing,
                 place: self.place,

@@ -1,6 +1,6 @@
 // The end that stores nothing and holds what it takes to a reference text.
 ghost use Rattle.std.specs.Prelude.{◌≡◌, ℕ, [], take};
-ghost use Rattle.fault.specs.Kinds.{end_fault};
+ghost use Rattle.fault.specs.Kinds.{own_fault};
 ghost use Rattle.orders.specs.declared.phase.Phase.TheVariants.{Running as Open};
 ghost use Rattle.orders.specs.Phases.{phased};
 ghost use Rattle.orders.specs.Steps.{shown};
@@ -9,7 +9,8 @@ ghost use Rattle.ends.specs.Lawful.{compare_lawful};
 
 use fault::cap::capped;
 use fault::cause::Cause;
-use fault::end::EndFault;
+use fault::layer::Layer;
+use fault::own_fault::OwnFault;
 use orders::phase::Phase;
 use sink::byte_sink::ByteSink;
 use undo::plain::Plain;
@@ -19,7 +20,7 @@ pub struct CompareEnd<'a> {
     reference: &'a [u8],
     // how many bytes of the reference came
     len: usize,
-    phase: Phase<EndFault>,
+    phase: Phase<OwnFault>,
 }
 
 impl<'a> CompareEnd<'a> {
@@ -41,25 +42,27 @@ impl<'a> CompareEnd<'a> {
 }
 
 impl<'a> ByteSink for CompareEnd<'a> {
-    type SinkFault = EndFault;
+    type SinkFault = OwnFault;
 
     type Undo = Plain;
 
-    ghost means = { λ s. compare_means s.reference.now s.len (phased end_fault s.phase) };
+    ghost means = { λ s. compare_means s.reference.now s.len (phased own_fault s.phase) };
 
-    ghost lawful = { λ s. compare_lawful s.reference.now s.len (phased end_fault s.phase) };
+    ghost lawful = { λ s. compare_lawful s.reference.now s.len (phased own_fault s.phase) };
 
     ghost memory = { λ _. [] };
 
-    fn put(&mut self, b: u8) -> Result<(), EndFault> {
+    fn put(&mut self, b: u8) -> Result<(), OwnFault> {
         let place = self.taken();
         match self.phase {
-            Phase::Closed => Err(EndFault {
+            Phase::Closed => Err(OwnFault {
                 cause: Cause::AfterClose,
+                layer: Layer::End,
                 place,
             }),
-            Phase::Shut(_) => Err(EndFault {
+            Phase::Shut(_) => Err(OwnFault {
                 cause: Cause::AfterShut,
+                layer: Layer::End,
                 place,
             }),
             Phase::Running => {
@@ -68,8 +71,9 @@ impl<'a> ByteSink for CompareEnd<'a> {
                     self.len = n + 1;
                     Ok(())
                 } else {
-                    let f = EndFault {
+                    let f = OwnFault {
                         cause: Cause::Differs,
+                        layer: Layer::End,
                         place,
                     };
                     self.phase = Phase::Shut(f);
@@ -79,21 +83,24 @@ impl<'a> ByteSink for CompareEnd<'a> {
         }
     }
 
-    fn close(&mut self) -> Result<u32, EndFault> {
+    fn close(&mut self) -> Result<u32, OwnFault> {
         let place = self.taken();
         match self.phase {
-            Phase::Closed => Err(EndFault {
+            Phase::Closed => Err(OwnFault {
                 cause: Cause::AfterClose,
+                layer: Layer::End,
                 place,
             }),
-            Phase::Shut(_) => Err(EndFault {
+            Phase::Shut(_) => Err(OwnFault {
                 cause: Cause::AfterShut,
+                layer: Layer::End,
                 place,
             }),
             Phase::Running => {
                 if self.len < self.reference.len() {
-                    let f = EndFault {
+                    let f = OwnFault {
                         cause: Cause::Incomplete,
+                        layer: Layer::End,
                         place,
                     };
                     self.phase = Phase::Shut(f);

@@ -1,6 +1,6 @@
 // The end that keeps what it takes in memory handed over by the caller.
 ghost use Rattle.std.specs.Prelude.{◌≡◌, ℕ, ◌≤◌, vec_len};
-ghost use Rattle.fault.specs.Kinds.{end_fault};
+ghost use Rattle.fault.specs.Kinds.{own_fault};
 ghost use Rattle.orders.specs.declared.phase.Phase.TheVariants.{Running as Open};
 ghost use Rattle.orders.specs.Phases.{phased};
 ghost use Rattle.orders.specs.Steps.{shown};
@@ -9,7 +9,8 @@ ghost use Rattle.ends.specs.Lawful.{memory_lawful};
 
 use fault::cap::capped;
 use fault::cause::Cause;
-use fault::end::EndFault;
+use fault::layer::Layer;
+use fault::own_fault::OwnFault;
 use orders::phase::Phase;
 use sink::byte_sink::ByteSink;
 use undo::plain::Plain;
@@ -19,7 +20,7 @@ pub struct MemoryEnd {
     memory: Vec<u8>,
     // how many bytes it took: they stand in front
     len: usize,
-    phase: Phase<EndFault>,
+    phase: Phase<OwnFault>,
     ghost within: { len ≤ vec_len memory },
 }
 
@@ -64,25 +65,27 @@ impl MemoryEnd {
 }
 
 impl ByteSink for MemoryEnd {
-    type SinkFault = EndFault;
+    type SinkFault = OwnFault;
 
     type Undo = Plain;
 
-    ghost means = { λ s. memory_means s.memory s.len (phased end_fault s.phase) };
+    ghost means = { λ s. memory_means s.memory s.len (phased own_fault s.phase) };
 
-    ghost lawful = { λ s. memory_lawful s.memory s.len (phased end_fault s.phase) };
+    ghost lawful = { λ s. memory_lawful s.memory s.len (phased own_fault s.phase) };
 
     ghost memory = { λ s. s.memory.items };
 
-    fn put(&mut self, b: u8) -> Result<(), EndFault> {
+    fn put(&mut self, b: u8) -> Result<(), OwnFault> {
         let place = self.taken();
         match self.phase {
-            Phase::Closed => Err(EndFault {
+            Phase::Closed => Err(OwnFault {
                 cause: Cause::AfterClose,
+                layer: Layer::End,
                 place,
             }),
-            Phase::Shut(_) => Err(EndFault {
+            Phase::Shut(_) => Err(OwnFault {
                 cause: Cause::AfterShut,
+                layer: Layer::End,
                 place,
             }),
             Phase::Running => {
@@ -92,8 +95,9 @@ impl ByteSink for MemoryEnd {
                     self.len = n + 1;
                     Ok(())
                 } else {
-                    let f = EndFault {
+                    let f = OwnFault {
                         cause: Cause::Full,
+                        layer: Layer::End,
                         place,
                     };
                     self.phase = Phase::Shut(f);
@@ -103,15 +107,17 @@ impl ByteSink for MemoryEnd {
         }
     }
 
-    fn close(&mut self) -> Result<u32, EndFault> {
+    fn close(&mut self) -> Result<u32, OwnFault> {
         let place = self.taken();
         match self.phase {
-            Phase::Closed => Err(EndFault {
+            Phase::Closed => Err(OwnFault {
                 cause: Cause::AfterClose,
+                layer: Layer::End,
                 place,
             }),
-            Phase::Shut(_) => Err(EndFault {
+            Phase::Shut(_) => Err(OwnFault {
                 cause: Cause::AfterShut,
+                layer: Layer::End,
                 place,
             }),
             Phase::Running => {

@@ -3,7 +3,7 @@ use crate::seen::numbers;
 use composer::composer::Composer;
 use dot::dot::Dot;
 use ends::memory::MemoryEnd;
-use fault::composer::ComposerFault;
+use fault::layer_fault::LayerFault;
 use fault::refusal::Refusal;
 use sink::byte_sink::ByteSink;
 use std::process::Abort;
@@ -16,14 +16,14 @@ fn over(rt: &HostRuntime, bytes: usize, width: u32) -> Result<Composer<MemoryEnd
     Ok(Composer::new(MemoryEnd::new(vec![in rt.alloc(); 0xEEu8; bytes]?), width))
 }
 
-fn is_fault(rt: &impl Abort, f: ComposerFault, cause: u8, place: u32) -> Result<(), Fail> {
+fn is_fault(rt: &impl Abort, f: LayerFault, cause: u8, place: u32) -> Result<(), Fail> {
     assert!(rt; numbers(f.fault()) == (cause, 1, 0, place));
     Ok(())
 }
 
 fn refused<X: Drop>(
     rt: &impl Abort,
-    r: Result<X, ComposerFault>,
+    r: Result<X, LayerFault>,
     cause: u8,
     place: u32,
 ) -> Result<(), Fail> {
@@ -33,7 +33,7 @@ fn refused<X: Drop>(
     }
 }
 
-fn answers(rt: &impl Abort, r: Result<u32, ComposerFault>, n: u32) -> Result<(), Fail> {
+fn answers(rt: &impl Abort, r: Result<u32, LayerFault>, n: u32) -> Result<(), Fail> {
     match r {
         Ok(m) => {
             assert!(rt; m == n);
@@ -162,7 +162,7 @@ const WIRE: &[u8] = b"The quick brown fox \r\njumps\r\n> ..\r\n";
 const DOTTED: &[u8] = b"The quick brown fox \r\njumps\r\n> ..\r\n.\r\n";
 
 // The mail as far as it goes: the fault that stopped it.
-fn compose<S: ByteSink>(composer: &mut Composer<S>) -> Result<u32, ComposerFault> {
+fn compose<S: ByteSink>(composer: &mut Composer<S>) -> Result<u32, LayerFault> {
     let open = ticket::open(composer, 0)?;
     let (_, refused) = feed(composer, b"The quick brown fox jumps  ");
     if let Some(f) = refused {

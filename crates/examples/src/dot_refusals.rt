@@ -3,7 +3,7 @@ use crate::seen::numbers;
 use dot::dot::Dot;
 use ends::compare::CompareEnd;
 use fault::refusal::Refusal;
-use fault::stage::StageFault;
+use fault::layer_fault::LayerFault;
 use sink::byte_sink::ByteSink;
 use sink::feed::feed;
 use std::process::Abort;
@@ -11,7 +11,7 @@ use std::test::Fail;
 
 fn fault_is(
     rt: &impl Abort,
-    f: StageFault,
+    f: LayerFault,
     cause: u8,
     layer: u8,
     level: u32,

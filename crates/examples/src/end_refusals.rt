@@ -2,13 +2,13 @@
 use crate::seen::numbers;
 use ends::compare::CompareEnd;
 use ends::memory::MemoryEnd;
-use fault::end::EndFault;
+use fault::own_fault::OwnFault;
 use fault::refusal::Refusal;
 use sink::byte_sink::ByteSink;
 use std::process::Abort;
 use std::test::Fail;
 
-fn refused(rt: &impl Abort, r: Result<(), EndFault>, cause: u8, place: u32) -> Result<(), Fail> {
+fn refused(rt: &impl Abort, r: Result<(), OwnFault>, cause: u8, place: u32) -> Result<(), Fail> {
     match r {
         Ok(()) => Err(Fail::new("accepted")),
         Err(f) => {
@@ -20,7 +20,7 @@ fn refused(rt: &impl Abort, r: Result<(), EndFault>, cause: u8, place: u32) -> R
 
 fn not_closed(
     rt: &impl Abort,
-    r: Result<u32, EndFault>,
+    r: Result<u32, OwnFault>,
     cause: u8,
     place: u32,
 ) -> Result<(), Fail> {

@@ -1,7 +1,7 @@
 // The store: every order in every state, and small memories.
 use crate::seen::numbers;
 use fault::refusal::Refusal;
-use fault::store::StoreFault;
+use fault::own_fault::OwnFault;
 use std::process::Abort;
 use std::test::Fail;
 use store::record::Record;
@@ -22,14 +22,14 @@ fn empty(rt: &HostRuntime, records: usize, bytes: usize) -> Result<Store, Fail> 
     ))
 }
 
-fn is_fault(rt: &impl Abort, f: StoreFault, cause: u8, place: u32) -> Result<(), Fail> {
+fn is_fault(rt: &impl Abort, f: OwnFault, cause: u8, place: u32) -> Result<(), Fail> {
     assert!(rt; numbers(f.fault()) == (cause, 8, 0, place));
     Ok(())
 }
 
 fn refused<X: Drop>(
     rt: &impl Abort,
-    r: Result<X, StoreFault>,
+    r: Result<X, OwnFault>,
     cause: u8,
     place: u32,
 ) -> Result<(), Fail> {

@@ -2,14 +2,14 @@
 use crate::seen::numbers;
 use dot::undot::DotUndo;
 use fault::refusal::Refusal;
-use fault::undo::UndoFault;
+use fault::own_fault::OwnFault;
 use std::process::Abort;
 use std::test::Fail;
 use undo::pair::Pair;
 use undo::plain::Plain;
 use undo::stage::UndoStage;
 
-fn fault_is(rt: &impl Abort, f: UndoFault, cause: u8, place: u32) -> Result<(), Fail> {
+fn fault_is(rt: &impl Abort, f: OwnFault, cause: u8, place: u32) -> Result<(), Fail> {
     assert!(rt; numbers(f.fault()) == (cause, 6, 0, place));
     Ok(())
 }

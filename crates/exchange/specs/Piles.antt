@@ -1,5 +1,5 @@
 -- What the piles of an exchange mean.
-use Rattle.fault.specs.Kinds.{end_fault, stage_fault, undo_fault}
+use Rattle.fault.specs.Kinds.{own_fault, layer_fault}
 use Rattle.fault.specs.Answers.{via}
 use Rattle.orders.specs.Phases.{phased}
 use Rattle.undo.specs.declared.pair.Pair.{Pair}
@@ -17,14 +17,14 @@ use Rattle.dot.specs.Undot.{undotting}
 
 -- a memory end, and a dot stage over one
 abbrev pub end_means : MemoryEnd → Sink
-end_means e = memory_means e.memory e.len (phased end_fault e.phase)
+end_means e = memory_means e.memory e.len (phased own_fault e.phase)
 
 abbrev pub dot_means : Dot MemoryEnd → Sink
-dot_means s = layer_means dot (end_means s.below) s.line (phased stage_fault s.phase) s.place
+dot_means s = layer_means dot (end_means s.below) s.line (phased layer_fault s.phase) s.place
 
 -- the undoing of such a stage, as it is, and before all bytes
 abbrev pub undo_means : Pair Plain DotUndo → Undoing
-undo_means p = pair_means (via undo_fault p.standing) plain (held_by (via undo_fault p.second.standing) (undotting p.second.place p.second.state))
+undo_means p = pair_means (via own_fault p.standing) plain (held_by (via own_fault p.second.standing) (undotting p.second.place p.second.state))
 
 abbrev pub undotted : Undoing
 undotted = piped plain (undotting 0 before_all)

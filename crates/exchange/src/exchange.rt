@@ -1,7 +1,7 @@
 // A mail sent by two composers and read back by two readers.
 ghost use Rattle.std.specs.Prelude.{◌≡◌, ℕ, [], vec_len};
 ghost use Rattle.fault.specs.Answers.{told, via};
-ghost use Rattle.fault.specs.Kinds.{composer_fault, reader_fault};
+ghost use Rattle.fault.specs.Kinds.{layer_fault};
 ghost use Rattle.orders.specs.Behind.{Behind};
 ghost use Rattle.history.specs.History.{Reached};
 ghost use Rattle.composer.specs.Composers.{means_of, new_means};
@@ -19,7 +19,7 @@ use conversation::promise::promise;
 use dot::dot::Dot;
 use dot::undot::DotUndo;
 use ends::memory::MemoryEnd;
-use fault::composer::ComposerFault;
+use fault::layer_fault::LayerFault;
 use reader::reader::Reader;
 use sink::byte_sink::ByteSink;
 use taker::paragraph_taker::ParagraphTaker;
@@ -78,8 +78,8 @@ pub struct Outcome<T, W> {
     pub second: Writer,
     pub reader: Reader<Pair<Plain, DotUndo>, T>,
     pub again: Reader<Pair<Plain, DotUndo>, W>,
-    pub sent: Sent<ComposerFault>,
-    pub sent_again: Sent<ComposerFault>,
+    pub sent: Sent<LayerFault>,
+    pub sent_again: Sent<LayerFault>,
     pub read: ReadBack,
     pub read_again: ReadBack,
 }
@@ -96,15 +96,15 @@ pub fn exchange<T: ParagraphTaker, W: ParagraphTaker>(
     taker: T,
     other: W,
 ) -> Outcome<T, W>
-    ensures sent { Written width (dotted memory) (means_of dot_means result.first) (exchange_orders mail.entry.text.now mail.entry.records.now) (via composer_fault result.sent.refused) (told composer_fault result.sent.finish) }
-    ensures sent_again { Written width (dotted twin) (means_of dot_means result.second) (exchange_orders mail.entry.text.now mail.entry.records.now) (via composer_fault result.sent_again.refused) (told composer_fault result.sent_again.finish) }
+    ensures sent { Written width (dotted memory) (means_of dot_means result.first) (exchange_orders mail.entry.text.now mail.entry.records.now) (via layer_fault result.sent.refused) (told layer_fault result.sent.finish) }
+    ensures sent_again { Written width (dotted twin) (means_of dot_means result.second) (exchange_orders mail.entry.text.now mail.entry.records.now) (via layer_fault result.sent_again.refused) (told layer_fault result.sent_again.finish) }
     ensures memory { Behind (means_of dot_means result.first).foot memory.items result.first.below.below.memory.items }
     ensures twin { Behind (means_of dot_means result.second).foot twin.items result.second.below.below.memory.items }
-    ensures read { ReadSo (new_reading undotted (T.ParagraphTaker.means taker)) (reading_of undo_means T.ParagraphTaker.means result.reader) (means_of dot_means result.first).foot (via reader_fault result.read.refused) (told reader_fault result.read.finish) }
-    ensures read_again { ReadSo (new_reading undotted (W.ParagraphTaker.means other)) (reading_of undo_means W.ParagraphTaker.means result.again) (means_of dot_means result.first).foot (via reader_fault result.read_again.refused) (told reader_fault result.read_again.finish) }
+    ensures read { ReadSo (new_reading undotted (T.ParagraphTaker.means taker)) (reading_of undo_means T.ParagraphTaker.means result.reader) (means_of dot_means result.first).foot (via layer_fault result.read.refused) (told layer_fault result.read.finish) }
+    ensures read_again { ReadSo (new_reading undotted (W.ParagraphTaker.means other)) (reading_of undo_means W.ParagraphTaker.means result.again) (means_of dot_means result.first).foot (via layer_fault result.read_again.refused) (told layer_fault result.read_again.finish) }
     ensures kept { T.ParagraphTaker.keeps taker result.reader.delivery.taker }
     ensures kept_again { W.ParagraphTaker.keeps other result.again.delivery.taker }
-    ensures promised { vec_len memory ≡ vec_len twin → Exchanged width (dotted memory) (dotted twin) (exchange_orders mail.entry.text.now mail.entry.records.now) (means_of dot_means result.first) (means_of dot_means result.second) (via composer_fault result.sent.refused) (via composer_fault result.sent_again.refused) (told composer_fault result.sent.finish) (told composer_fault result.sent_again.finish) (HandedBack (T.ParagraphTaker.means taker) (T.ParagraphTaker.lawful taker) (told reader_fault result.read.finish) (reading_of undo_means T.ParagraphTaker.means result.reader)) (HandedBack (W.ParagraphTaker.means other) (W.ParagraphTaker.lawful other) (told reader_fault result.read_again.finish) (reading_of undo_means W.ParagraphTaker.means result.again)) }
+    ensures promised { vec_len memory ≡ vec_len twin → Exchanged width (dotted memory) (dotted twin) (exchange_orders mail.entry.text.now mail.entry.records.now) (means_of dot_means result.first) (means_of dot_means result.second) (via layer_fault result.sent.refused) (via layer_fault result.sent_again.refused) (told layer_fault result.sent.finish) (told layer_fault result.sent_again.finish) (HandedBack (T.ParagraphTaker.means taker) (T.ParagraphTaker.lawful taker) (told layer_fault result.read.finish) (reading_of undo_means T.ParagraphTaker.means result.reader)) (HandedBack (W.ParagraphTaker.means other) (W.ParagraphTaker.lawful other) (told layer_fault result.read_again.finish) (reading_of undo_means W.ParagraphTaker.means result.again)) }
 {
     let mut first = new_writer(memory, width);
     let mut second = new_writer(twin, width);

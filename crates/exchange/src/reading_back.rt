@@ -1,11 +1,11 @@
 // Wire bytes read in pieces, and the finish behind them.
 ghost use Rattle.std.specs.Prelude.{ℕ};
 ghost use Rattle.fault.specs.Answers.{told, via};
-ghost use Rattle.fault.specs.Kinds.{reader_fault};
+ghost use Rattle.fault.specs.Kinds.{layer_fault};
 ghost use Rattle.reader.specs.Readers.{reading_of};
 ghost use Rattle.exchange.specs.ReadSo.{FedSo, ReadSo};
 
-use fault::reader::ReaderFault;
+use fault::layer_fault::LayerFault;
 use reader::reader::Reader;
 use taker::paragraph_taker::ParagraphTaker;
 use undo::stage::UndoStage;
@@ -13,8 +13,8 @@ use undo::stage::UndoStage;
 // What became of wire bytes: the first refusal, and the answer to the finish.
 #[derive(Clone, Copy)]
 pub struct ReadBack {
-    pub refused: Option<ReaderFault>,
-    pub finish: Result<u32, ReaderFault>,
+    pub refused: Option<LayerFault>,
+    pub finish: Result<u32, LayerFault>,
 }
 
 // In pieces of `cut` bytes, the last perhaps shorter. Answers the first refusal.
@@ -22,11 +22,11 @@ fn feed_wire<U: UndoStage, T: ParagraphTaker>(
     reader: &mut Reader<U, T>,
     wire: &[u8],
     cut: usize,
-) -> Option<ReaderFault>
-    ensures fed { FedSo (reading_of U.UndoStage.means T.ParagraphTaker.means reader.old) (reading_of U.UndoStage.means T.ParagraphTaker.means reader.new) wire.now (via reader_fault result) }
+) -> Option<LayerFault>
+    ensures fed { FedSo (reading_of U.UndoStage.means T.ParagraphTaker.means reader.old) (reading_of U.UndoStage.means T.ParagraphTaker.means reader.new) wire.now (via layer_fault result) }
     ensures kept { T.ParagraphTaker.keeps reader.old.delivery.taker reader.new.delivery.taker }
 {
-    let mut first: Option<ReaderFault> = None;
+    let mut first: Option<LayerFault> = None;
     let mut at: usize = 0;
     while at < wire.len() {
         let end = wire.len().min(at.saturating_add(cut.max(1)));
@@ -42,7 +42,7 @@ pub fn read_mail<U: UndoStage, T: ParagraphTaker>(
     wire: &[u8],
     cut: usize,
 ) -> ReadBack
-    ensures read { ReadSo (reading_of U.UndoStage.means T.ParagraphTaker.means reader.old) (reading_of U.UndoStage.means T.ParagraphTaker.means reader.new) wire.now (via reader_fault result.refused) (told reader_fault result.finish) }
+    ensures read { ReadSo (reading_of U.UndoStage.means T.ParagraphTaker.means reader.old) (reading_of U.UndoStage.means T.ParagraphTaker.means reader.new) wire.now (via layer_fault result.refused) (told layer_fault result.finish) }
     ensures kept { T.ParagraphTaker.keeps reader.old.delivery.taker reader.new.delivery.taker }
 {
     let refused = feed_wire(reader, wire, cut);

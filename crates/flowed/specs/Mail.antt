@@ -1,16 +1,16 @@
 -- Why a mail is not whole.
 use Rattle.std.specs.Prelude.{ℕ, Bool, false, ◌&&◌, Some, None, Ok, Err, Option, Result, ◌==◌}
-use Rattle.fault.specs.declared.composer.ComposerFault.{ComposerFault}
+use Rattle.fault.specs.declared.layer_fault.LayerFault.{LayerFault}
 use Rattle.fault.specs.declared.fault.Fault.{Fault}
 use Rattle.fault.specs.Numbers.{cause_number, layer_number}
-use Rattle.fault.specs.Kinds.{composer_fault}
+use Rattle.fault.specs.Kinds.{layer_fault}
 use Rattle.compose_text.specs.declared.composed.Outcome.{Outcome}
 use Rattle.flowed.specs.declared.mail_report.Unfinished.{Unfinished}
 use Rattle.flowed.specs.declared.mail_report.Unfinished.TheVariants.{Line, Finish}
 
-abbrev pub unfinished_at : Option (ℕ × ComposerFault) → Option (Result ℕ ComposerFault) → Option Unfinished
-unfinished_at (Some p) fin = Some (Line p.0 (composer_fault p.1))
-unfinished_at None (Some (Err f)) = Some (Finish (composer_fault f))
+abbrev pub unfinished_at : Option (ℕ × LayerFault) → Option (Result ℕ LayerFault) → Option Unfinished
+unfinished_at (Some p) fin = Some (Line p.0 (layer_fault p.1))
+unfinished_at None (Some (Err f)) = Some (Finish (layer_fault f))
 unfinished_at None (Some (Ok n)) = None
 unfinished_at None None = None
 

@@ -6,7 +6,7 @@ ghost use Rattle.flowed.specs.Mail.{unfinished, memory_full, for_memory};
 use crate::words::InWords;
 use compose_text::composed::Outcome;
 use fault::cause::Cause;
-use fault::composer::ComposerFault;
+use fault::layer_fault::LayerFault;
 use fault::fault::Fault;
 use fault::layer::Layer;
 use fault::refusal::Refusal;

@@ -1,6 +1,6 @@
 // What is reported of a body that was carried.
 ghost use Rattle.std.specs.Prelude.{◌≡◌, length};
-ghost use Rattle.fault.specs.Kinds.{end_fault, stage_fault, undo_fault};
+ghost use Rattle.fault.specs.Kinds.{own_fault, layer_fault};
 ghost use Rattle.carry.specs.Trip.{trip_meant};
 ghost use Rattle.line_ends.specs.LineEnds.{line_feeds, leading_dots};
 ghost use Rattle.flowed.specs.Came.{came};
@@ -9,11 +9,10 @@ use crate::words::InWords;
 use carry::carried::Carried;
 use carry::stop::Stop;
 use carry::trip::Trip;
-use fault::end::EndFault;
+use fault::own_fault::OwnFault;
 use fault::fault::Fault;
 use fault::refusal::Refusal;
-use fault::stage::StageFault;
-use fault::undo::UndoFault;
+use fault::layer_fault::LayerFault;
 use line_ends::count::{count_leading_dots, count_lines};
 use std::fmt;
 
@@ -26,8 +25,8 @@ pub struct Report {
     trip: Trip<Fault, Fault, Fault>,
 }
 
-fn with_faults(trip: Trip<StageFault, UndoFault, EndFault>) -> Trip<Fault, Fault, Fault>
-    ensures { result ≡ trip_meant stage_fault undo_fault end_fault trip }
+fn with_faults(trip: Trip<LayerFault, OwnFault, OwnFault>) -> Trip<Fault, Fault, Fault>
+    ensures { result ≡ trip_meant layer_fault own_fault own_fault trip }
 {
     match trip {
         Trip::Refused(f) => Trip::Refused(f.fault()),
@@ -43,7 +42,7 @@ impl Report {
         ensures lines { result.lines ≡ line_feeds body.now }
         ensures dots { result.dots ≡ leading_dots 10 body.now }
         ensures wire { result.wire ≡ carried.now.len }
-        ensures trip { result.trip ≡ trip_meant stage_fault undo_fault end_fault carried.now.trip }
+        ensures trip { result.trip ≡ trip_meant layer_fault own_fault own_fault carried.now.trip }
     {
         Report {
             body: body.len(),

@@ -4,7 +4,7 @@ use Rattle.fault.specs.declared.fault.Fault.{Fault}
 use Rattle.fault.specs.declared.cause.Cause.TheVariants.{AfterClose, AfterShut}
 use Rattle.fault.specs.declared.layer.Layer.TheVariants.{Reader as reader_layer}
 use Rattle.fault.specs.Faults.{own}
-use Rattle.fault.specs.Kinds.{reader_fault}
+use Rattle.fault.specs.Kinds.{layer_fault}
 use Rattle.orders.specs.declared.phase.Phase.{Phase}
 use Rattle.orders.specs.declared.phase.Phase.TheVariants.{Running, Closed, Shut}
 use Rattle.orders.specs.Phases.{phased}
@@ -22,7 +22,7 @@ reading_of undoes takes r = record {
   taker = takes r.delivery.taker;
   number = r.delivery.number;
   place = r.place;
-  phase = phased reader_fault r.phase;
+  phase = phased layer_fault r.phase;
 }
 
 -- the fault of all that comes once the reader has finished or was shut

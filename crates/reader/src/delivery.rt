@@ -1,7 +1,7 @@
 // A taker with the bare number of its open paragraph.
 ghost use Rattle.std.specs.Prelude.{◌≡◌, [], ◌∷◌};
 ghost use Rattle.fault.specs.Answers.{told, answer, raised};
-ghost use Rattle.fault.specs.Kinds.{reader_fault};
+ghost use Rattle.fault.specs.Kinds.{layer_fault};
 ghost use Rattle.orders.specs.Steps.{after, verdict, value};
 ghost use Rattle.taker.specs.Paragraph.{finishes};
 ghost use Rattle.reading.specs.Events.{opened, ended, texts};
@@ -9,7 +9,7 @@ ghost use Rattle.reader.specs.Plans.{end_if, open_if, events_of};
 ghost use Rattle.reader.specs.Deliveries.{Delivered};
 
 use crate::plan::Plan;
-use fault::reader::ReaderFault;
+use fault::layer_fault::LayerFault;
 use fault::rise::from_below;
 use taker::feed::feed;
 use taker::paragraph_taker::ParagraphTaker;
@@ -22,15 +22,15 @@ pub struct Delivery<T> {
 }
 
 impl<T: ParagraphTaker> Delivery<T> {
-    fn open(&mut self, depth: u32) -> Result<(), ReaderFault>
-        ensures { Delivered T.ParagraphTaker.means T.ParagraphTaker.keeps self.old self.new (opened depth ∷ []) (told reader_fault result) }
+    fn open(&mut self, depth: u32) -> Result<(), LayerFault>
+        ensures { Delivered T.ParagraphTaker.means T.ParagraphTaker.keeps self.old self.new (opened depth ∷ []) (told layer_fault result) }
     {
         self.number = from_below(self.taker.open(depth))?;
         Ok(())
     }
 
-    fn text(&mut self, bytes: &[u8]) -> Result<(), ReaderFault>
-        ensures { Delivered T.ParagraphTaker.means T.ParagraphTaker.keeps self.old self.new (texts bytes.now) (told reader_fault result) }
+    fn text(&mut self, bytes: &[u8]) -> Result<(), LayerFault>
+        ensures { Delivered T.ParagraphTaker.means T.ParagraphTaker.keeps self.old self.new (texts bytes.now) (told layer_fault result) }
     {
         let (_, fault) = feed(&mut self.taker, bytes);
         let answer = match fault {
@@ -41,8 +41,8 @@ impl<T: ParagraphTaker> Delivery<T> {
         Ok(())
     }
 
-    fn end(&mut self) -> Result<(), ReaderFault>
-        ensures { Delivered T.ParagraphTaker.means T.ParagraphTaker.keeps self.old self.new (ended ∷ []) (told reader_fault result) }
+    fn end(&mut self) -> Result<(), LayerFault>
+        ensures { Delivered T.ParagraphTaker.means T.ParagraphTaker.keeps self.old self.new (ended ∷ []) (told layer_fault result) }
     {
         let number = self.number;
         from_below(self.taker.end(number))?;
@@ -50,8 +50,8 @@ impl<T: ParagraphTaker> Delivery<T> {
     }
 
     // The end of the open paragraph, if it is to be ended.
-    pub(crate) fn end_if(&mut self, due: bool) -> Result<(), ReaderFault>
-        ensures { Delivered T.ParagraphTaker.means T.ParagraphTaker.keeps self.old self.new (end_if due) (told reader_fault result) }
+    pub(crate) fn end_if(&mut self, due: bool) -> Result<(), LayerFault>
+        ensures { Delivered T.ParagraphTaker.means T.ParagraphTaker.keeps self.old self.new (end_if due) (told layer_fault result) }
     {
         if due {
             self.end()?;
@@ -59,8 +59,8 @@ impl<T: ParagraphTaker> Delivery<T> {
         Ok(())
     }
 
-    fn open_if(&mut self, depth: Option<u32>) -> Result<(), ReaderFault>
-        ensures { Delivered T.ParagraphTaker.means T.ParagraphTaker.keeps self.old self.new (open_if depth) (told reader_fault result) }
+    fn open_if(&mut self, depth: Option<u32>) -> Result<(), LayerFault>
+        ensures { Delivered T.ParagraphTaker.means T.ParagraphTaker.keeps self.old self.new (open_if depth) (told layer_fault result) }
     {
         if let Some(d) = depth {
             self.open(d)?;
@@ -69,8 +69,8 @@ impl<T: ParagraphTaker> Delivery<T> {
     }
 
     // All of a plan, to the first refusal.
-    pub(crate) fn hand_on(&mut self, plan: &Plan) -> Result<(), ReaderFault>
-        ensures { Delivered T.ParagraphTaker.means T.ParagraphTaker.keeps self.old self.new (events_of plan.now) (told reader_fault result) }
+    pub(crate) fn hand_on(&mut self, plan: &Plan) -> Result<(), LayerFault>
+        ensures { Delivered T.ParagraphTaker.means T.ParagraphTaker.keeps self.old self.new (events_of plan.now) (told layer_fault result) }
     {
         self.end_if(plan.end_first)?;
         self.open_if(plan.open)?;
@@ -79,8 +79,8 @@ impl<T: ParagraphTaker> Delivery<T> {
     }
 
     // The finish of the taker, and what it answers.
-    pub(crate) fn finish(&mut self) -> Result<u32, ReaderFault>
-        ensures answered { told reader_fault result ≡ answer (value (T.ParagraphTaker.means self.old.taker) finishes) (raised (verdict (T.ParagraphTaker.means self.old.taker) finishes)) }
+    pub(crate) fn finish(&mut self) -> Result<u32, LayerFault>
+        ensures answered { told layer_fault result ≡ answer (value (T.ParagraphTaker.means self.old.taker) finishes) (raised (verdict (T.ParagraphTaker.means self.old.taker) finishes)) }
         ensures changed { T.ParagraphTaker.means self.new.taker ≡ after (T.ParagraphTaker.means self.old.taker) finishes }
         ensures number { self.new.number ≡ self.old.number }
         ensures kept { T.ParagraphTaker.keeps self.old.taker self.new.taker }

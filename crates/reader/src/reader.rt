@@ -1,7 +1,7 @@
 // The reader: wire bytes go through an undoing stage, and come out as paragraphs at a taker.
 ghost use Rattle.std.specs.Prelude.{◌≡◌};
 ghost use Rattle.fault.specs.Answers.{via};
-ghost use Rattle.fault.specs.Kinds.{reader_fault};
+ghost use Rattle.fault.specs.Kinds.{layer_fault};
 ghost use Rattle.orders.specs.Phases.{phased, stands};
 ghost use Rattle.reader.specs.Reading.{new_reading};
 ghost use Rattle.reader.specs.Readers.{reading_of, over_fault};
@@ -9,7 +9,8 @@ ghost use Rattle.reader.specs.Readers.{reading_of, over_fault};
 use crate::delivery::Delivery;
 use crate::line::LineState;
 use fault::cause::Cause;
-use fault::reader::ReaderFault;
+use fault::layer::Layer;
+use fault::layer_fault::LayerFault;
 use orders::phase::Phase;
 use taker::paragraph_taker::ParagraphTaker;
 use undo::stage::UndoStage;
@@ -22,7 +23,7 @@ pub struct Reader<U, T> {
     undo: U,
     delivery: Delivery<T>,
     line: LineState,
-    phase: Phase<ReaderFault>,
+    phase: Phase<LayerFault>,
     // how many undone bytes were accepted
     place: u32,
 }
@@ -46,8 +47,8 @@ impl<U: UndoStage, T: ParagraphTaker> Reader<U, T> {
 
 impl<U, T> Reader<U, T> {
     // The fault that shut it.
-    pub fn standing(&self) -> Option<ReaderFault>
-        ensures { via reader_fault result ≡ stands (phased reader_fault self.now.phase) }
+    pub fn standing(&self) -> Option<LayerFault>
+        ensures { via layer_fault result ≡ stands (phased layer_fault self.now.phase) }
     {
         match self.phase {
             Phase::Shut(f) => Some(f),
@@ -77,13 +78,13 @@ impl<U, T> Reader<U, T> {
     }
 
     // The fault of all that comes once it has finished or was shut.
-    pub(crate) fn over(&self) -> Option<ReaderFault>
-        ensures { via reader_fault result ≡ over_fault (phased reader_fault self.now.phase) self.now.place }
+    pub(crate) fn over(&self) -> Option<LayerFault>
+        ensures { via layer_fault result ≡ over_fault (phased layer_fault self.now.phase) self.now.place }
     {
         match self.phase {
             Phase::Running => None,
-            Phase::Closed => Some(ReaderFault::own(Cause::AfterClose, self.place)),
-            Phase::Shut(_) => Some(ReaderFault::own(Cause::AfterShut, self.place)),
+            Phase::Closed => Some(LayerFault::own(Cause::AfterClose, Layer::Reader, self.place)),
+            Phase::Shut(_) => Some(LayerFault::own(Cause::AfterShut, Layer::Reader, self.place)),
         }
     }
 }

@@ -4,9 +4,9 @@ use Rattle.std.proofs.lemmas.List.{take-set, drop-set-lt}
 use Rattle.fault.specs.declared.fault.Fault.{Fault}
 use Rattle.fault.specs.declared.cause.Cause.TheVariants.{Full}
 use Rattle.fault.specs.declared.layer.Layer.TheVariants.{Store as Layered}
-use Rattle.fault.specs.declared.store.StoreFault.{StoreFault}
+use Rattle.fault.specs.declared.own_fault.OwnFault.{OwnFault}
 use Rattle.fault.specs.Faults.{own, most}
-use Rattle.fault.specs.Kinds.{store_fault}
+use Rattle.fault.specs.Kinds.{own_fault}
 use Rattle.orders.specs.declared.phase.Phase.TheVariants.{Running, Closed, Shut}
 use Rattle.orders.specs.Permits.{filled}
 use Rattle.orders.specs.Phases.{phased}
@@ -96,7 +96,7 @@ module _ (a : Store) (run : a.phase ≡ Running) where
   outside e = ap (in_use a.count) e
 
   shut_means : (b : Store) (c : Contents) → contents b ≡ c → b.phase ≡ a.phase → meant b ≡ means_by c Running
-  shut_means b c e p = λ i. means_by (e i) (phased store_fault ((p ∙ run) i))
+  shut_means b c e p = λ i. means_by (e i) (phased own_fault ((p ∙ run) i))
 
   pub open_took : (d : ℕ) → cause_of (store_step a.count a.inside (opens d)) ≡ None → (b : Store) (n : ℕ) → Opened a b d n → Took a b (opens d)
   open_took d q b n h =
@@ -107,12 +107,12 @@ module _ (a : Store) (run : a.phase ≡ Running) where
       let free = room_for (ltb (opens_in foot) (min (length records) most)) foot (lt-ltb (opens_in foot) (min (length records) most) (omega arith)) in
       took_by a (opens d) run (opened d ∷ []) (at a.count true) s.1 (foot ++ opened d ∷ []) (ap (λ (v : Option Fault). filled v foot (record { list = foot ++ opened d ∷ []; fault = None })) free) b (subst (λ (x : Contents). Kept (contents a) x) (sym h.holds) (open_kept (contents a) d s.0)) (shut_means b (with_open (contents a) d) h.holds h.phase ∙ open_means (contents a) d s.0 (omega arith))
 
-  pub open_full : (d : ℕ) → cause_of (store_step a.count a.inside (opens d)) ≡ None → min (length records) most ≤ a.count → (b : Store) (f : StoreFault) → contents b ≡ contents a → b.phase ≡ Shut f → f.cause ≡ Full → f.place ≡ min a.used most → RefusedSo a b (opens d) f
-  open_full d q k b f c p e g =
+  pub open_full : (d : ℕ) → cause_of (store_step a.count a.inside (opens d)) ≡ None → min (length records) most ≤ a.count → (b : Store) (f : OwnFault) → contents b ≡ contents a → b.phase ≡ Shut f → f.cause ≡ Full → f.place ≡ min a.used most → f.layer ≡ Layered → RefusedSo a b (opens d) f
+  open_full d q k b f c p e g l =
       let s = open_step a.count a.inside d q in
       let o = foot_opens records bytes a.count a.inside a.used (filed a) in
       let u = outside s.0 in
-      full_by a (opens d) run (opened d) (at a.count true) s.1 (no_room (ltb (opens_in foot) (min (length records) most)) foot a.used (le-ltb (opens_in foot) (min (length records) most) (omega arith)) (foot_texts records bytes a.count a.inside a.used (filed a))) b f c p e g
+      full_by a (opens d) run (opened d) (at a.count true) s.1 (no_room (ltb (opens_in foot) (min (length records) most)) foot a.used (le-ltb (opens_in foot) (min (length records) most) (omega arith)) (foot_texts records bytes a.count a.inside a.used (filed a))) b f c p e g l
 
   pub text_took : (x : ℕ) → cause_of (store_step a.count a.inside (texts x)) ≡ None → (b : Store) → Wrote a b x → Took a b (texts x)
   text_took x q b h =
@@ -122,11 +122,11 @@ module _ (a : Store) (run : a.phase ≡ Running) where
       let free = room_for (ltb (texts_in foot) (length bytes)) foot (lt-ltb (texts_in foot) (length bytes) (omega arith)) in
       took_by a (texts x) run (text x ∷ []) (at a.count a.inside) s.1 (foot ++ text x ∷ []) (ap (λ (v : Option Fault). filled v foot (record { list = foot ++ text x ∷ []; fault = None })) free) b (subst (λ (y : Contents). Kept (contents a) y) (sym h.holds) (text_kept (contents a) x s.0)) (shut_means b (with_text (contents a) x) h.holds h.phase ∙ text_means (contents a) x s.0 (filed a) (omega arith))
 
-  pub text_full : (x : ℕ) → cause_of (store_step a.count a.inside (texts x)) ≡ None → length bytes ≤ a.used → (b : Store) (f : StoreFault) → contents b ≡ contents a → b.phase ≡ Shut f → f.cause ≡ Full → f.place ≡ min a.used most → RefusedSo a b (texts x) f
-  text_full x q k b f c p e g =
+  pub text_full : (x : ℕ) → cause_of (store_step a.count a.inside (texts x)) ≡ None → length bytes ≤ a.used → (b : Store) (f : OwnFault) → contents b ≡ contents a → b.phase ≡ Shut f → f.cause ≡ Full → f.place ≡ min a.used most → f.layer ≡ Layered → RefusedSo a b (texts x) f
+  text_full x q k b f c p e g l =
       let s = text_step a.count a.inside x q in
       let t = foot_texts records bytes a.count a.inside a.used (filed a) in
-      full_by a (texts x) run (text x) (at a.count a.inside) s.1 (no_room (ltb (texts_in foot) (length bytes)) foot a.used (le-ltb (texts_in foot) (length bytes) (omega arith)) t) b f c p e g
+      full_by a (texts x) run (text x) (at a.count a.inside) s.1 (no_room (ltb (texts_in foot) (length bytes)) foot a.used (le-ltb (texts_in foot) (length bytes) (omega arith)) t) b f c p e g l
 
   pub end_took : (n : ℕ) → cause_of (store_step a.count a.inside (ends n)) ≡ None → (b : Store) → Ended a b → Took a b (ends n)
   end_took n q b h =
@@ -138,4 +138,4 @@ module _ (a : Store) (run : a.phase ≡ Running) where
   pub finish_took : cause_of (store_step a.count a.inside finishes) ≡ None → (b : Store) → contents b ≡ contents a → b.phase ≡ Closed → Took a b finishes
   finish_took q b c p =
       let s = finish_step a.count a.inside q in
-      took_by a finishes run [] (at a.count a.inside) s.1 foot refl b (subst (λ (y : Contents). Kept (contents a) y) (sym c) (kept_same (contents a))) (λ i. means_by (c i) (phased store_fault (p i)))
+      took_by a finishes run [] (at a.count a.inside) s.1 foot refl b (subst (λ (y : Contents). Kept (contents a) y) (sym c) (kept_same (contents a))) (λ i. means_by (c i) (phased own_fault (p i)))

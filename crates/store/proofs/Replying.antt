@@ -1,8 +1,8 @@
 -- What the store answers, once it let an order pass.
 use Rattle.std.proofs.Common.{◌≡◌, Bool, false, cond, [], None, Ok, sym, ap, ◌∙◌, subst, ap₂}
-use Rattle.fault.specs.declared.store.StoreFault.{StoreFault}
+use Rattle.fault.specs.declared.own_fault.OwnFault.{OwnFault}
 use Rattle.fault.specs.Answers.{answer}
-use Rattle.fault.specs.Kinds.{store_fault}
+use Rattle.fault.specs.Kinds.{own_fault}
 use Rattle.orders.specs.declared.phase.Phase.{Phase}
 use Rattle.orders.specs.declared.phase.Phase.TheVariants.{Running}
 use Rattle.orders.specs.Phases.{phased}
@@ -25,13 +25,13 @@ module _ (a b : Store) (o : Order) (p : LetPass a b o) where
   pub took_from : (d : Store) → Took b d o → Took a d o
   took_from d t = subst (λ (s : Store). Took s d o) p.same t
 
-  pub refused_from : (d : Store) (f : StoreFault) → RefusedSo b d o f → RefusedSo a d o f
+  pub refused_from : (d : Store) (f : OwnFault) → RefusedSo b d o f → RefusedSo a d o f
   refused_from d f t = subst (λ (s : Store). RefusedSo s d o f) p.same t
 
 -- an accepted order that does not close
 pub replies : (a d : Store) (o : Order) → a.phase ≡ Running → closes o ≡ false → Took a d o → Ok (store_tells a.count o) ≡ answered (meant a) o
 replies a d o run c t =
-    let says = ap (λ (ph : Phase StoreFault). bottom_says store (phased store_fault ph) (at a.count a.inside) [] o) run in
+    let says = ap (λ (ph : Phase OwnFault). bottom_says store (phased own_fault ph) (at a.count a.inside) [] o) run in
     sym (ap₂ answer (ap (λ (x : Bool). cond x (shown (after (meant a) o).foot) ((meant a).says [] o)) c ∙ says) t.told)
 
 -- finish answers the foot's length

@@ -4,9 +4,9 @@ use Rattle.fault.specs.declared.fault.Fault.{Fault}
 use Rattle.fault.specs.declared.cause.Cause.{Cause}
 use Rattle.fault.specs.declared.cause.Cause.TheVariants.{TooDeep, BarredByte, WrongNumber, GivenUp, Full}
 use Rattle.fault.specs.declared.layer.Layer.TheVariants.{Store as Layered}
-use Rattle.fault.specs.declared.store.StoreFault.{StoreFault}
+use Rattle.fault.specs.declared.own_fault.OwnFault.{OwnFault}
 use Rattle.fault.specs.Faults.{own, most}
-use Rattle.fault.specs.Kinds.{store_fault}
+use Rattle.fault.specs.Kinds.{own_fault}
 use Rattle.orders.specs.declared.phase.Phase.TheVariants.{Running, Shut}
 use Rattle.orders.specs.Meaning.{Permit}
 use Rattle.orders.specs.Permits.{fill, filled}
@@ -89,7 +89,7 @@ one_more bars foot x e = ap (λ (v : Option Fault). filled v foot (record { list
 module _ (a : Store) (o : Order) (run : a.phase ≡ Running) where
   pub took_by : (es : List Event) (t : Pages) → store_step a.count a.inside o ≡ takes es t → (l : List Event) → fill (permit_of a).bars (foot_of a) es ≡ record { list = l; fault = None } → (b : Store) → Keeps a b → meant b ≡ bottom_means store (permit_of a) l t (gone (closes o)) (place_on (counts o) (min a.used most)) → Took a b o
   took_by es t q l h b k w =
-      let d = in_taken store (permit_of a) (foot_of a) (at a.count a.inside) store_fault a.phase (min a.used most) o run es t q stirs l h (never (closes o)) in
+      let d = in_taken store (permit_of a) (foot_of a) (at a.count a.inside) own_fault a.phase (min a.used most) o run es t q stirs l h (never (closes o)) in
       record { told = d.tells; left = w ∙ d.leads; kept = k }
     where
       never : (c : Bool) → if_closing c None ≡ None
@@ -97,13 +97,13 @@ module _ (a : Store) (o : Order) (run : a.phase ≡ Running) where
       never false = refl
 
   -- no room is left for it
-  pub full_by : (x : Event) (t : Pages) → store_step a.count a.inside o ≡ takes (x ∷ []) t → (permit_of a).bars (foot_of a) x ≡ Some (own Full Layered (min a.used most)) → (b : Store) (f : StoreFault) → contents b ≡ contents a → b.phase ≡ Shut f → f.cause ≡ Full → f.place ≡ min a.used most → RefusedSo a b o f
-  full_by x t q h b f c p e g =
+  pub full_by : (x : Event) (t : Pages) → store_step a.count a.inside o ≡ takes (x ∷ []) t → (permit_of a).bars (foot_of a) x ≡ Some (own Full Layered (min a.used most)) → (b : Store) (f : OwnFault) → contents b ≡ contents a → b.phase ≡ Shut f → f.cause ≡ Full → f.place ≡ min a.used most → f.layer ≡ Layered → RefusedSo a b o f
+  full_by x t q h b f c p e g l =
       let fault = own Full Layered (min a.used most) in
-      let d = in_barred store (permit_of a) (foot_of a) (at a.count a.inside) store_fault a.phase (min a.used most) o run (x ∷ []) t q (foot_of a) fault (ap (λ (v : Option Fault). filled v (foot_of a) (record { list = foot_of a ++ x ∷ []; fault = None })) h) refl (at a.count a.inside) in
-      let is : store_fault f ≡ fault = λ i. own (e i) Layered (g i) in
+      let d = in_barred store (permit_of a) (foot_of a) (at a.count a.inside) own_fault a.phase (min a.used most) o run (x ∷ []) t q (foot_of a) fault (ap (λ (v : Option Fault). filled v (foot_of a) (record { list = foot_of a ++ x ∷ []; fault = None })) h) refl (at a.count a.inside) in
+      let is : own_fault f ≡ fault = λ i. own (e i) (l i) (g i) in
       record {
         told = d.tells ∙ ap (λ (y : Fault). Some y) (sym is);
-        left = (λ i. means_by (c i) (phased store_fault (p i))) ∙ ap (λ (y : Fault). means_by (contents a) (Shut y)) is ∙ d.leads;
+        left = (λ i. means_by (c i) (phased own_fault (p i))) ∙ ap (λ (y : Fault). means_by (contents a) (Shut y)) is ∙ d.leads;
         kept = subst (λ (y : Contents). Kept (contents a) y) (sym c) (keeps_same a);
       }

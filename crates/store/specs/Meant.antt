@@ -2,8 +2,8 @@
 use Rattle.std.specs.Prelude.{◌≡◌, take, Some, None, vec_items, Option}
 use Rattle.std.proofs.Common.{arith}
 use Rattle.fault.specs.declared.cause.Cause.{Cause}
-use Rattle.fault.specs.declared.store.StoreFault.{StoreFault}
-use Rattle.fault.specs.Kinds.{store_fault}
+use Rattle.fault.specs.declared.own_fault.OwnFault.{OwnFault}
+use Rattle.fault.specs.Kinds.{own_fault}
 use Rattle.orders.specs.declared.phase.Phase.TheVariants.{Running}
 use Rattle.orders.specs.Phases.{phased}
 use Rattle.orders.specs.Steps.{after, verdict}
@@ -21,7 +21,7 @@ use Rattle.store.specs.Contents.{contents, means_by}
 use Rattle.store.specs.Keeps.{Keeps}
 
 abbrev pub meant : Store → Taker Event
-meant s = means_by (contents s) (phased store_fault s.phase)
+meant s = means_by (contents s) (phased own_fault s.phase)
 
 pub filed : (s : Store) → Filed (vec_items s.records) (vec_items s.bytes) s.count s.inside s.used
 filed s =
@@ -32,7 +32,7 @@ filed s =
     record { few = omega arith; tiles = tiles_is (take (in_use s.count s.inside) (vec_items s.records)) s.used s.tiles; room = omega arith }
 
 pub meant_lawful : (s : Store) → Lawful (meant s)
-meant_lawful s = store_lawful (vec_items s.records) (vec_items s.bytes) s.count s.used s.inside (phased store_fault s.phase) (filed s) s.numbered
+meant_lawful s = store_lawful (vec_items s.records) (vec_items s.bytes) s.count s.used s.inside (phased own_fault s.phase) (filed s) s.numbered
 
 abbrev pub ordered : Ask → Order
 ordered (Open d) = opens d
@@ -47,8 +47,8 @@ cause_of (takes es t) = None
 cause_of (stops c) = Some c
 
 -- the store refused the order a; or it is as it was, goes on, and the order is not its own to refuse
-pub record RefusedSo (a b : Store) (o : Order) (f : StoreFault) : Type 0 where
-  pub told : verdict (meant a) o ≡ Some (store_fault f)
+pub record RefusedSo (a b : Store) (o : Order) (f : OwnFault) : Type 0 where
+  pub told : verdict (meant a) o ≡ Some (own_fault f)
   pub left : meant b ≡ after (meant a) o
   pub kept : Keeps a b
 
@@ -57,6 +57,6 @@ pub record LetPass (a b : Store) (o : Order) : Type 0 where
   pub goes_on : a.phase ≡ Running
   pub own_none : cause_of (store_step a.count a.inside o) ≡ None
 
-abbrev pub Asked : Store → Store → Order → Option StoreFault → Type 0
+abbrev pub Asked : Store → Store → Order → Option OwnFault → Type 0
 Asked a b o (Some f) = RefusedSo a b o f
 Asked a b o None = LetPass a b o

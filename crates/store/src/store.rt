@@ -4,7 +4,7 @@ ghost use Rattle.orders.specs.declared.phase.Phase.TheVariants.{Running as Open}
 ghost use Rattle.store.specs.Events.{tiles_to, in_use};
 
 use crate::record::Record;
-use fault::store::StoreFault;
+use fault::own_fault::OwnFault;
 use orders::phase::Phase;
 
 pub mod asking;
@@ -23,7 +23,7 @@ pub struct Store {
     inside: bool,
     // how many bytes are used
     used: usize,
-    phase: Phase<StoreFault>,
+    phase: Phase<OwnFault>,
     ghost few: { in_use count inside ≤ vec_len records },
     ghost numbered: { in_use count inside ≤ 4294967295 },
     ghost tiles: { tiles_to (take (in_use count inside) records.items) used ≡ true },

@@ -3,4 +3,5 @@
 
 pub mod feed;
 pub mod paragraph_taker;
+pub mod text;
 pub mod ticket;

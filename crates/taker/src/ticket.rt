@@ -26,10 +26,8 @@ pub fn open<T: ParagraphTaker>(taker: &mut T, depth: u32) -> Result<Ticket, T::T
     ensures changed { T.ParagraphTaker.means taker.new ≡ after (T.ParagraphTaker.means taker.old) (opens depth) }
     ensures kept { T.ParagraphTaker.keeps taker.old taker.new }
 {
-    match taker.open(depth) {
-        Ok(number) => Ok(Ticket { number }),
-        Err(f) => Err(f),
-    }
+    let number = taker.open(depth)?;
+    Ok(Ticket { number })
 }
 
 pub fn end<T: ParagraphTaker>(taker: &mut T, ticket: Ticket) -> Result<u32, T::TakerFault>

@@ -1,18 +1,18 @@
 // Two undoing stages, the second fed by the first. A pair is no layer: faults pass through it as they are.
 ghost use Rattle.std.specs.Prelude.{◌≡◌, [], None};
 ghost use Rattle.fault.specs.Answers.{told, via};
-ghost use Rattle.fault.specs.Kinds.{undo_fault};
+ghost use Rattle.fault.specs.Kinds.{own_fault};
 ghost use Rattle.undo.specs.Undoing.{fed, handed, fed_next, pair_means};
 
 use crate::stage::UndoStage;
-use fault::undo::UndoFault;
+use fault::own_fault::OwnFault;
 
 #[derive(Drop)]
 pub struct Pair<A, B> {
     first: A,
     second: B,
     // the refusal of either, which the pair repeats
-    standing: Option<UndoFault>,
+    standing: Option<OwnFault>,
 }
 
 impl<P: UndoStage, Q: UndoStage> Pair<P, Q> {
@@ -32,8 +32,8 @@ fn pass<P: UndoStage, Q: UndoStage>(
     first: &mut P,
     second: &mut Q,
     b: u8,
-) -> Result<Option<u8>, UndoFault>
-    ensures answered { told undo_fault result ≡ handed ((P.UndoStage.means first.old).takes [] b) ((Q.UndoStage.means second.old).takes []) }
+) -> Result<Option<u8>, OwnFault>
+    ensures answered { told own_fault result ≡ handed ((P.UndoStage.means first.old).takes [] b) ((Q.UndoStage.means second.old).takes []) }
     ensures one { P.UndoStage.means first.new ≡ fed (P.UndoStage.means first.old) b }
     ensures two { Q.UndoStage.means second.new ≡ fed_next ((P.UndoStage.means first.old).takes [] b) (Q.UndoStage.means second.old) }
 {
@@ -44,9 +44,9 @@ fn pass<P: UndoStage, Q: UndoStage>(
 }
 
 impl<P: UndoStage, Q: UndoStage> UndoStage for Pair<P, Q> {
-    ghost means = { λ s. pair_means (via undo_fault s.standing) (P.UndoStage.means s.first) (Q.UndoStage.means s.second) };
+    ghost means = { λ s. pair_means (via own_fault s.standing) (P.UndoStage.means s.first) (Q.UndoStage.means s.second) };
 
-    fn take(&mut self, b: u8) -> Result<Option<u8>, UndoFault> {
+    fn take(&mut self, b: u8) -> Result<Option<u8>, OwnFault> {
         if let Some(f) = self.standing {
             return Err(f);
         }
@@ -57,7 +57,7 @@ impl<P: UndoStage, Q: UndoStage> UndoStage for Pair<P, Q> {
         given
     }
 
-    fn may_stop(&self) -> Result<(), UndoFault> {
+    fn may_stop(&self) -> Result<(), OwnFault> {
         if let Some(f) = self.standing {
             return Err(f);
         }

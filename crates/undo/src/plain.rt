@@ -2,7 +2,7 @@
 ghost use Rattle.undo.specs.Undoing.{plain};
 
 use crate::stage::UndoStage;
-use fault::undo::UndoFault;
+use fault::own_fault::OwnFault;
 
 #[derive(Clone, Copy)]
 pub struct Plain;
@@ -10,11 +10,11 @@ pub struct Plain;
 impl UndoStage for Plain {
     ghost means = { λ _. plain };
 
-    fn take(&mut self, b: u8) -> Result<Option<u8>, UndoFault> {
+    fn take(&mut self, b: u8) -> Result<Option<u8>, OwnFault> {
         Ok(Some(b))
     }
 
-    fn may_stop(&self) -> Result<(), UndoFault> {
+    fn may_stop(&self) -> Result<(), OwnFault> {
         Ok(())
     }
 }

@@ -1,6 +1,6 @@
 // The composer takes paragraph orders.
 ghost use Rattle.std.specs.Prelude.{ℕ};
-ghost use Rattle.fault.specs.Kinds.{composer_fault};
+ghost use Rattle.fault.specs.Kinds.{layer_fault};
 ghost use Rattle.orders.specs.Phases.{phased};
 ghost use Rattle.composer.specs.Keeping.{Keeps, keeps_same, keeps_chained};
 ghost use Rattle.composer.specs.Composers.{state_of, means_of};
@@ -9,19 +9,19 @@ ghost use Rattle.composer.specs.Law.{composer_lawful};
 use crate::composer::Composer;
 use crate::wire::send_close;
 use fault::cause::Cause;
-use fault::composer::ComposerFault;
+use fault::layer_fault::LayerFault;
 use orders::phase::Phase;
 use sink::byte_sink::ByteSink;
 use taker::paragraph_taker::ParagraphTaker;
 
 impl<S: ByteSink> ParagraphTaker for Composer<S> {
-    type TakerFault = ComposerFault;
+    type TakerFault = LayerFault;
 
     ghost Item = { ℕ };
 
     ghost means = { λ c. means_of S.ByteSink.means c };
 
-    ghost lawful = { λ c. composer_lawful (S.ByteSink.means c.below) (state_of c) (phased composer_fault c.phase) c.place (S.ByteSink.lawful c.below) };
+    ghost lawful = { λ c. composer_lawful (S.ByteSink.means c.below) (state_of c) (phased layer_fault c.phase) c.place (S.ByteSink.lawful c.below) };
 
     ghost keeps = { λ a b. Keeps (S.ByteSink.means a.below).foot (S.ByteSink.means b.below).foot (S.ByteSink.memory a.below) (S.ByteSink.memory b.below) };
 
@@ -29,7 +29,7 @@ impl<S: ByteSink> ParagraphTaker for Composer<S> {
 
     ghost chained = { λ a b c. keeps_chained (S.ByteSink.means a.below).foot (S.ByteSink.means b.below).foot (S.ByteSink.means c.below).foot (S.ByteSink.memory a.below) (S.ByteSink.memory b.below) (S.ByteSink.memory c.below) };
 
-    fn open(&mut self, depth: u32) -> Result<u32, ComposerFault> {
+    fn open(&mut self, depth: u32) -> Result<u32, LayerFault> {
         if let Some(f) = self.over() {
             return Err(f);
         }
@@ -42,7 +42,7 @@ impl<S: ByteSink> ParagraphTaker for Composer<S> {
         Ok(number)
     }
 
-    fn put(&mut self, b: u8) -> Result<(), ComposerFault> {
+    fn put(&mut self, b: u8) -> Result<(), LayerFault> {
         if let Some(f) = self.over() {
             return Err(f);
         }
@@ -61,7 +61,7 @@ impl<S: ByteSink> ParagraphTaker for Composer<S> {
         }
     }
 
-    fn end(&mut self, number: u32) -> Result<u32, ComposerFault> {
+    fn end(&mut self, number: u32) -> Result<u32, LayerFault> {
         if let Some(f) = self.over() {
             return Err(f);
         }
@@ -77,7 +77,7 @@ impl<S: ByteSink> ParagraphTaker for Composer<S> {
         }
     }
 
-    fn give_up(&mut self, number: u32) -> ComposerFault {
+    fn give_up(&mut self, number: u32) -> LayerFault {
         if let Some(f) = self.over() {
             return f;
         }
@@ -85,7 +85,7 @@ impl<S: ByteSink> ParagraphTaker for Composer<S> {
         self.refuse(cause)
     }
 
-    fn finish(&mut self) -> Result<u32, ComposerFault> {
+    fn finish(&mut self) -> Result<u32, LayerFault> {
         if let Some(f) = self.over() {
             return Err(f);
         }
@@ -108,7 +108,7 @@ impl<S: ByteSink> ParagraphTaker for Composer<S> {
         self.below.foot_len()
     }
 
-    fn standing(&self) -> Option<ComposerFault> {
+    fn standing(&self) -> Option<LayerFault> {
         match self.phase {
             Phase::Shut(f) => Some(f),
             _ => None,

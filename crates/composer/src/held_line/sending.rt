@@ -2,7 +2,7 @@
 ghost use Rattle.std.specs.Prelude.{◌≡◌, ◌+◌, ◌<◌, ◌≤◌, false, ◌&&◌, take, ◌==◌};
 ghost use Rattle.folding.specs.Held.{is_dashes, full};
 ghost use Rattle.fault.specs.Answers.{told};
-ghost use Rattle.fault.specs.Kinds.{composer_fault};
+ghost use Rattle.fault.specs.Kinds.{layer_fault};
 ghost use Rattle.folding.specs.WireLine.{wire_line};
 ghost use Rattle.folding.specs.Incremental.{ending};
 ghost use Rattle.composer.specs.Sending.{WentDown};
@@ -11,14 +11,14 @@ ghost use Rattle.composer.specs.Taking.{TookDown, counted};
 
 use crate::held_line::HeldLine;
 use crate::wire::send_line;
-use fault::composer::ComposerFault;
+use fault::layer_fault::LayerFault;
 use sink::byte_sink::ByteSink;
 
 impl HeldLine {
     // The line of a piece of what is held.
-    fn send_piece<S: ByteSink>(&self, below: &mut S, piece: usize) -> Result<(), ComposerFault>
+    fn send_piece<S: ByteSink>(&self, below: &mut S, piece: usize) -> Result<(), LayerFault>
         requires { piece ≤ self.now.len + self.now.spaces }
-        ensures { WentDown S.ByteSink.means S.ByteSink.memory below.old below.new (wire_line self.now.depth (take piece (held_text (held_of self.now)))) (told composer_fault result) }
+        ensures { WentDown S.ByteSink.means S.ByteSink.memory below.old below.new (wire_line self.now.depth (take piece (held_text (held_of self.now)))) (told layer_fault result) }
     {
         let front = piece.min(self.len);
         send_line(below, self.depth, &self.bytes[..front], piece - front)
@@ -32,8 +32,8 @@ impl HeldLine {
     }
 
     // The last line, without spaces behind it unless it is a signature separator.
-    pub(crate) fn send_last<S: ByteSink>(&self, below: &mut S) -> Result<(), ComposerFault>
-        ensures { WentDown S.ByteSink.means S.ByteSink.memory below.old below.new (wire_line self.now.depth (ending self.now.lines (held_of self.now))) (told composer_fault result) }
+    pub(crate) fn send_last<S: ByteSink>(&self, below: &mut S) -> Result<(), LayerFault>
+        ensures { WentDown S.ByteSink.means S.ByteSink.memory below.old below.new (wire_line self.now.depth (ending self.now.lines (held_of self.now))) (told layer_fault result) }
     {
         if self.is_signature() {
             return send_line(below, self.depth, &self.bytes[..self.len], 1);
@@ -42,11 +42,11 @@ impl HeldLine {
     }
 
     // Takes a byte other than a space: lines go down until the line takes what is left.
-    fn take_plain<S: ByteSink>(&mut self, below: &mut S, b: u8) -> Result<(), ComposerFault>
+    fn take_plain<S: ByteSink>(&mut self, below: &mut S, b: u8) -> Result<(), LayerFault>
         requires plain { (b == 32) ≡ false }
         requires room { full self.old.depth (held_of self.old) ≡ false }
         requires few { counted self.old < 1000000 }
-        ensures { TookDown self.old self.new b S.ByteSink.means S.ByteSink.memory below.old below.new (told composer_fault result) }
+        ensures { TookDown self.old self.new b S.ByteSink.means S.ByteSink.memory below.old below.new (told layer_fault result) }
     {
         while let Some(piece) = self.piece(b) {
             self.send_piece(below, piece)?;
@@ -57,10 +57,10 @@ impl HeldLine {
     }
 
     // Takes a text byte, and sends the lines that it finishes.
-    pub(crate) fn take<S: ByteSink>(&mut self, below: &mut S, b: u8) -> Result<(), ComposerFault>
+    pub(crate) fn take<S: ByteSink>(&mut self, below: &mut S, b: u8) -> Result<(), LayerFault>
         requires room { (b == 32) ≡ false → full self.old.depth (held_of self.old) ≡ false }
         requires few { counted self.old < 1000000 }
-        ensures { TookDown self.old self.new b S.ByteSink.means S.ByteSink.memory below.old below.new (told composer_fault result) }
+        ensures { TookDown self.old self.new b S.ByteSink.means S.ByteSink.memory below.old below.new (told layer_fault result) }
     {
         if b == 0x20 {
             self.count_space();

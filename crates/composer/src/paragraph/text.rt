@@ -1,7 +1,7 @@
 // A paragraph is opened, takes its text, and is ended.
 ghost use Rattle.std.specs.Prelude.{◌≡◌, ◌+◌, ◌≤◌, true, IfOk, Some as some, None as none, Ok as ok};
 ghost use Rattle.fault.specs.Answers.{told};
-ghost use Rattle.fault.specs.Kinds.{composer_fault};
+ghost use Rattle.fault.specs.Kinds.{layer_fault};
 ghost use Rattle.composer.specs.Machine.{barred, begun, text_refusal, text_bytes, on_text, end_bytes, end_tells};
 ghost use Rattle.composer.specs.Sending.{WentDown, done};
 ghost use Rattle.composer.specs.Paragraphs.{within_of};
@@ -9,7 +9,7 @@ ghost use Rattle.composer.specs.Paragraphs.{within_of};
 use crate::held_line::HeldLine;
 use crate::paragraph::Paragraph;
 use fault::cause::Cause;
-use fault::composer::ComposerFault;
+use fault::layer_fault::LayerFault;
 use sink::byte_sink::ByteSink;
 
 fn is_barred(b: u8) -> bool
@@ -68,10 +68,10 @@ impl Paragraph {
     }
 
     // Takes a text byte that is not refused, and sends the lines that it finishes.
-    pub(crate) fn take<S: ByteSink>(&mut self, below: &mut S, b: u8) -> Result<(), ComposerFault>
+    pub(crate) fn take<S: ByteSink>(&mut self, below: &mut S, b: u8) -> Result<(), LayerFault>
         requires { text_refusal self.old.held.width b (within_of self.old) ≡ none }
-        ensures sends { WentDown S.ByteSink.means S.ByteSink.memory below.old below.new (text_bytes self.old.held.width b (within_of self.old)) (told composer_fault result) }
-        ensures within { told composer_fault result ≡ ok tt → within_of self.new ≡ on_text self.old.held.width b (within_of self.old) }
+        ensures sends { WentDown S.ByteSink.means S.ByteSink.memory below.old below.new (text_bytes self.old.held.width b (within_of self.old)) (told layer_fault result) }
+        ensures within { told layer_fault result ≡ ok tt → within_of self.new ≡ on_text self.old.held.width b (within_of self.old) }
         ensures width { self.new.held.width ≡ self.old.held.width }
     {
         self.bytes += 1;
@@ -79,9 +79,9 @@ impl Paragraph {
     }
 
     // Sends the last line, and says how many there were.
-    pub(crate) fn end<S: ByteSink>(&mut self, below: &mut S) -> Result<u32, ComposerFault>
+    pub(crate) fn end<S: ByteSink>(&mut self, below: &mut S) -> Result<u32, LayerFault>
         requires { self.old.is_open ≡ true }
-        ensures sends { WentDown S.ByteSink.means S.ByteSink.memory below.old below.new (end_bytes (within_of self.old)) (told composer_fault (done result)) }
+        ensures sends { WentDown S.ByteSink.means S.ByteSink.memory below.old below.new (end_bytes (within_of self.old)) (told layer_fault (done result)) }
         ensures tells { IfOk result (λ n. n ≡ end_tells (within_of self.old)) }
         ensures closed { within_of self.new ≡ none }
         ensures width { self.new.held.width ≡ self.old.held.width }

@@ -1,7 +1,7 @@
 // Wire bytes, one by one and as a chunk.
 ghost use Rattle.std.specs.Prelude.{◌≡◌};
 ghost use Rattle.fault.specs.Answers.{told, answer, via};
-ghost use Rattle.fault.specs.Kinds.{reader_fault};
+ghost use Rattle.fault.specs.Kinds.{layer_fault};
 ghost use Rattle.reading.specs.Machine.{step};
 ghost use Rattle.reader.specs.States.{state_of};
 ghost use Rattle.reader.specs.Reading.{stepped, wire_byte, byte, bytes, accepted};
@@ -9,7 +9,8 @@ ghost use Rattle.reader.specs.Readers.{reading_of};
 ghost use Rattle.reader.specs.Whole.{Whole};
 
 use crate::reader::Reader;
-use fault::reader::ReaderFault;
+use fault::layer::Layer;
+use fault::layer_fault::LayerFault;
 use fault::rise::from_below;
 use orders::phase::Phase;
 use taker::paragraph_taker::ParagraphTaker;
@@ -17,8 +18,8 @@ use undo::stage::UndoStage;
 
 impl<U: UndoStage, T: ParagraphTaker> Reader<U, T> {
     // An undone byte, by the rules of reading.
-    fn read(&mut self, b: u8) -> Result<(), ReaderFault>
-        ensures answered { told reader_fault result ≡ answer tt (stepped (reading_of U.UndoStage.means T.ParagraphTaker.means self.old) (step (state_of self.old.line) b)).fault }
+    fn read(&mut self, b: u8) -> Result<(), LayerFault>
+        ensures answered { told layer_fault result ≡ answer tt (stepped (reading_of U.UndoStage.means T.ParagraphTaker.means self.old) (step (state_of self.old.line) b)).fault }
         ensures changed { reading_of U.UndoStage.means T.ParagraphTaker.means self.new ≡ (stepped (reading_of U.UndoStage.means T.ParagraphTaker.means self.old) (step (state_of self.old.line) b)).left }
         ensures kept { T.ParagraphTaker.keeps self.old.delivery.taker self.new.delivery.taker }
     {
@@ -30,13 +31,13 @@ impl<U: UndoStage, T: ParagraphTaker> Reader<U, T> {
                 self.place = self.place.saturating_add(1);
                 Ok(())
             }
-            Err(cause) => Err(ReaderFault::own(cause, self.place)),
+            Err(cause) => Err(LayerFault::own(cause, Layer::Reader, self.place)),
         }
     }
 
     // A wire byte: what the undoing stage makes of it, if anything, is read.
-    fn take(&mut self, b: u8) -> Result<(), ReaderFault>
-        ensures answered { told reader_fault result ≡ answer tt (wire_byte (reading_of U.UndoStage.means T.ParagraphTaker.means self.old) b).fault }
+    fn take(&mut self, b: u8) -> Result<(), LayerFault>
+        ensures answered { told layer_fault result ≡ answer tt (wire_byte (reading_of U.UndoStage.means T.ParagraphTaker.means self.old) b).fault }
         ensures changed { reading_of U.UndoStage.means T.ParagraphTaker.means self.new ≡ (wire_byte (reading_of U.UndoStage.means T.ParagraphTaker.means self.old) b).left }
         ensures kept { T.ParagraphTaker.keeps self.old.delivery.taker self.new.delivery.taker }
     {
@@ -47,8 +48,8 @@ impl<U: UndoStage, T: ParagraphTaker> Reader<U, T> {
     }
 
     // A wire byte, in any phase: the first refusal shuts the reader.
-    fn byte(&mut self, b: u8) -> Result<(), ReaderFault>
-        ensures answered { told reader_fault result ≡ answer tt (byte (reading_of U.UndoStage.means T.ParagraphTaker.means self.old) b).fault }
+    fn byte(&mut self, b: u8) -> Result<(), LayerFault>
+        ensures answered { told layer_fault result ≡ answer tt (byte (reading_of U.UndoStage.means T.ParagraphTaker.means self.old) b).fault }
         ensures changed { reading_of U.UndoStage.means T.ParagraphTaker.means self.new ≡ (byte (reading_of U.UndoStage.means T.ParagraphTaker.means self.old) b).left }
         ensures kept { T.ParagraphTaker.keeps self.old.delivery.taker self.new.delivery.taker }
     {
@@ -64,9 +65,9 @@ impl<U: UndoStage, T: ParagraphTaker> Reader<U, T> {
 
     // How many bytes were accepted, and the fault that stopped it. What the taker was handed, and the fault, are those
     // that the chunk comes to as a whole.
-    pub fn feed(&mut self, chunk: &[u8]) -> (usize, Option<ReaderFault>)
+    pub fn feed(&mut self, chunk: &[u8]) -> (usize, Option<LayerFault>)
         ensures taken { result.0 ≡ accepted (reading_of U.UndoStage.means T.ParagraphTaker.means self.old) chunk.now }
-        ensures fault { via reader_fault result.1 ≡ (bytes (reading_of U.UndoStage.means T.ParagraphTaker.means self.old) chunk.now).fault }
+        ensures fault { via layer_fault result.1 ≡ (bytes (reading_of U.UndoStage.means T.ParagraphTaker.means self.old) chunk.now).fault }
         ensures changed { reading_of U.UndoStage.means T.ParagraphTaker.means self.new ≡ (bytes (reading_of U.UndoStage.means T.ParagraphTaker.means self.old) chunk.now).left }
         ensures whole { Whole (reading_of U.UndoStage.means T.ParagraphTaker.means self.old) chunk.now }
         ensures kept { T.ParagraphTaker.keeps self.old.delivery.taker self.new.delivery.taker }

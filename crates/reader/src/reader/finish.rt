@@ -1,14 +1,15 @@
 // The finish of a reader.
 ghost use Rattle.std.specs.Prelude.{◌≡◌};
 ghost use Rattle.fault.specs.Answers.{told, answer};
-ghost use Rattle.fault.specs.Kinds.{reader_fault};
+ghost use Rattle.fault.specs.Kinds.{layer_fault};
 ghost use Rattle.reading.specs.Machine.{finish as finish_by};
 ghost use Rattle.reader.specs.States.{state_of};
 ghost use Rattle.reader.specs.Reading.{line_finish, finish_tells, finish_read, finish_answered};
 ghost use Rattle.reader.specs.Readers.{reading_of};
 
 use crate::reader::Reader;
-use fault::reader::ReaderFault;
+use fault::layer::Layer;
+use fault::layer_fault::LayerFault;
 use fault::rise::from_below;
 use orders::phase::Phase;
 use taker::paragraph_taker::ParagraphTaker;
@@ -16,8 +17,8 @@ use undo::stage::UndoStage;
 
 impl<U: UndoStage, T: ParagraphTaker> Reader<U, T> {
     // The undoing stage has to stop first; then an open paragraph is ended, and the taker finished.
-    fn last_orders(&mut self) -> Result<u32, ReaderFault>
-        ensures answered { told reader_fault result ≡ answer (finish_tells (reading_of U.UndoStage.means T.ParagraphTaker.means self.old)) (line_finish (finish_by (state_of self.old.line)) (reading_of U.UndoStage.means T.ParagraphTaker.means self.old)).fault }
+    fn last_orders(&mut self) -> Result<u32, LayerFault>
+        ensures answered { told layer_fault result ≡ answer (finish_tells (reading_of U.UndoStage.means T.ParagraphTaker.means self.old)) (line_finish (finish_by (state_of self.old.line)) (reading_of U.UndoStage.means T.ParagraphTaker.means self.old)).fault }
         ensures changed { reading_of U.UndoStage.means T.ParagraphTaker.means self.new ≡ (line_finish (finish_by (state_of self.old.line)) (reading_of U.UndoStage.means T.ParagraphTaker.means self.old)).left }
         ensures kept { T.ParagraphTaker.keeps self.old.delivery.taker self.new.delivery.taker }
     {
@@ -27,13 +28,13 @@ impl<U: UndoStage, T: ParagraphTaker> Reader<U, T> {
                 self.delivery.end_if(open)?;
                 self.delivery.finish()
             }
-            Err(cause) => Err(ReaderFault::own(cause, self.place)),
+            Err(cause) => Err(LayerFault::own(cause, Layer::Reader, self.place)),
         }
     }
 
     // Refused inside a line. Answers what the finish of the taker does.
-    pub fn finish(&mut self) -> Result<u32, ReaderFault>
-        ensures answered { told reader_fault result ≡ finish_answered (reading_of U.UndoStage.means T.ParagraphTaker.means self.old) }
+    pub fn finish(&mut self) -> Result<u32, LayerFault>
+        ensures answered { told layer_fault result ≡ finish_answered (reading_of U.UndoStage.means T.ParagraphTaker.means self.old) }
         ensures changed { reading_of U.UndoStage.means T.ParagraphTaker.means self.new ≡ (finish_read (reading_of U.UndoStage.means T.ParagraphTaker.means self.old)).left }
         ensures kept { T.ParagraphTaker.keeps self.old.delivery.taker self.new.delivery.taker }
     {

@@ -9,7 +9,8 @@ use crate::ask::Ask;
 use crate::store::Store;
 use fault::cap::capped;
 use fault::cause::Cause;
-use fault::store::StoreFault;
+use fault::layer::Layer;
+use fault::own_fault::OwnFault;
 use orders::phase::Phase;
 
 fn is_barred(b: u8) -> bool
@@ -79,23 +80,29 @@ impl Store {
     }
 
     // The store's own refusal of what it is asked, which shuts it or leaves all as it was; none where it goes on.
-    pub(crate) fn refuse(&mut self, ask: Ask) -> Option<StoreFault>
+    pub(crate) fn refuse(&mut self, ask: Ask) -> Option<OwnFault>
         ensures { Asked self.old self.new (ordered ask) result }
     {
         let place = self.place();
         match self.phase {
-            Phase::Closed => Some(StoreFault {
+            Phase::Closed => Some(OwnFault {
                 cause: Cause::AfterClose,
+                layer: Layer::Store,
                 place,
             }),
-            Phase::Shut(_) => Some(StoreFault {
+            Phase::Shut(_) => Some(OwnFault {
                 cause: Cause::AfterShut,
+                layer: Layer::Store,
                 place,
             }),
             Phase::Running => match own_cause(self.count, self.inside, ask) {
                 None => None,
                 Some(cause) => {
-                    let f = StoreFault { cause, place };
+                    let f = OwnFault {
+                        cause,
+                        layer: Layer::Store,
+                        place,
+                    };
                     if !is_mild(cause) {
                         self.phase = Phase::Shut(f);
                     }

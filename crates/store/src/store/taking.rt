@@ -1,6 +1,7 @@
 // The store takes the five orders.
 ghost use Rattle.std.specs.Prelude.{◌≡◌, ℕ, ◌+◌, min, true, false};
 ghost use Rattle.fault.specs.declared.cause.Cause.TheVariants.{Full as full_cause};
+ghost use Rattle.fault.specs.declared.layer.Layer.TheVariants.{Store as layered};
 ghost use Rattle.fault.specs.Faults.{most};
 ghost use Rattle.orders.specs.declared.phase.Phase.TheVariants.{Closed as closed, Shut as shut_by};
 ghost use Rattle.orders.specs.Steps.{shown};
@@ -13,20 +14,23 @@ use crate::ask::Ask;
 use crate::store::Store;
 use fault::cap::capped;
 use fault::cause::Cause;
-use fault::store::StoreFault;
+use fault::layer::Layer;
+use fault::own_fault::OwnFault;
 use orders::phase::Phase;
 use taker::paragraph_taker::ParagraphTaker;
 
 impl Store {
     // Shut, since memory or records are full.
-    fn shut_full(&mut self) -> StoreFault
+    fn shut_full(&mut self) -> OwnFault
         ensures holds { contents self.new ≡ contents self.old }
         ensures phase { self.new.phase ≡ shut_by result }
         ensures cause { result.cause ≡ full_cause }
+        ensures layer { result.layer ≡ layered }
         ensures place { result.place ≡ min self.old.used most }
     {
-        let f = StoreFault {
+        let f = OwnFault {
             cause: Cause::Full,
+            layer: Layer::Store,
             place: self.place(),
         };
         self.phase = Phase::Shut(f);
@@ -51,7 +55,7 @@ impl Store {
 }
 
 impl ParagraphTaker for Store {
-    type TakerFault = StoreFault;
+    type TakerFault = OwnFault;
 
     ghost Item = { Event };
 
@@ -65,7 +69,7 @@ impl ParagraphTaker for Store {
 
     ghost chained = { keeps_then };
 
-    fn open(&mut self, depth: u32) -> Result<u32, StoreFault> {
+    fn open(&mut self, depth: u32) -> Result<u32, OwnFault> {
         if let Some(f) = self.refuse(Ask::Open(depth)) {
             return Err(f);
         }
@@ -75,7 +79,7 @@ impl ParagraphTaker for Store {
         }
     }
 
-    fn put(&mut self, b: u8) -> Result<(), StoreFault> {
+    fn put(&mut self, b: u8) -> Result<(), OwnFault> {
         if let Some(f) = self.refuse(Ask::Text(b)) {
             return Err(f);
         }
@@ -85,7 +89,7 @@ impl ParagraphTaker for Store {
         Err(self.shut_full())
     }
 
-    fn end(&mut self, number: u32) -> Result<u32, StoreFault> {
+    fn end(&mut self, number: u32) -> Result<u32, OwnFault> {
         if let Some(f) = self.refuse(Ask::End(number)) {
             return Err(f);
         }
@@ -93,14 +97,14 @@ impl ParagraphTaker for Store {
         Ok(1)
     }
 
-    fn give_up(&mut self, number: u32) -> StoreFault {
+    fn give_up(&mut self, number: u32) -> OwnFault {
         match self.refuse(Ask::GiveUp(number)) {
             Some(f) => f,
             None => unreachable(),
         }
     }
 
-    fn finish(&mut self) -> Result<u32, StoreFault> {
+    fn finish(&mut self) -> Result<u32, OwnFault> {
         if let Some(f) = self.refuse(Ask::Finish) {
             return Err(f);
         }
@@ -112,7 +116,7 @@ impl ParagraphTaker for Store {
         self.taken()
     }
 
-    fn standing(&self) -> Option<StoreFault> {
+    fn standing(&self) -> Option<OwnFault> {
         match self.phase {
             Phase::Shut(f) => Some(f),
             _ => None,

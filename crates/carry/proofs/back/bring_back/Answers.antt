@@ -1,7 +1,7 @@
 use Rattle.std.proofs.Common.{sym, ap, ◌∙◌}
 use Rattle.orders.proofs.Answering.{answer_ok}
 use Rattle.orders.proofs.Growing.{behind_then}
-use Rattle.fault.specs.Kinds.{undo_fault}
+use Rattle.fault.specs.Kinds.{own_fault}
 use Rattle.sink.specs.Sink.{close}
 use Rattle.carry.specs.Back.{passed, closed_by, meant_by}
 use Rattle.carry.proofs.Passing.{closing}
@@ -11,7 +11,7 @@ pub returns-in-Ok : goal.returns-in-Ok
 returns-in-Ok g c =
     let p = passed (g.U.UndoStage.means c.args.undoing.now) (g.S.ByteSink.means c.args.sink.now) c.args.wire.now in
     let all = c.pass_all-stop.ensures in
-    let d = closing p _ _ (sym all.stop ∙ ap (meant_by undo_fault g.S.SinkFault.Refusal.means) c.in_default.is) all.undoing all.sink (answer_ok tt _ _ c.in_default-may_stop.ensures) in
+    let d = closing p _ _ (sym all.stop ∙ ap (meant_by own_fault g.S.SinkFault.Refusal.means) c.in_default.is) all.undoing all.sink (answer_ok tt _ _ c.in_default-may_stop.ensures) in
     record {
       answered = ap closed_by c.in-Ok.ensures.answered ∙ sym d.0;
       undoing = all.undoing;
@@ -23,7 +23,7 @@ pub returns-in-Err-close : goal.returns-in-Err-close
 returns-in-Err-close g c =
     let p = passed (g.U.UndoStage.means c.args.undoing.now) (g.S.ByteSink.means c.args.sink.now) c.args.wire.now in
     let all = c.pass_all-stop.ensures in
-    let d = closing p _ _ (sym all.stop ∙ ap (meant_by undo_fault g.S.SinkFault.Refusal.means) c.in_default.is) all.undoing all.sink (answer_ok tt _ _ c.in_default-may_stop.ensures) in
+    let d = closing p _ _ (sym all.stop ∙ ap (meant_by own_fault g.S.SinkFault.Refusal.means) c.in_default.is) all.undoing all.sink (answer_ok tt _ _ c.in_default-may_stop.ensures) in
     record {
       answered = ap closed_by c.in-Err-close.ensures.answered ∙ sym d.0;
       undoing = all.undoing;

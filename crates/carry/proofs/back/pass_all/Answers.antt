@@ -1,6 +1,6 @@
 use Rattle.std.proofs.Common.{ℕ, List, [], get_or, sym, ◌∙◌, subst, arith}
 use Rattle.std.proofs.lemmas.List.{drop_more, drop_all}
-use Rattle.fault.specs.Kinds.{undo_fault}
+use Rattle.fault.specs.Kinds.{own_fault}
 use Rattle.carry.specs.Back.{meant}
 use Rattle.carry.proofs.Passing.{Rest, went_through, halted}
 use Rattle.carry.proofs.Footing.{behind_on}
@@ -16,7 +16,7 @@ returns-in-Some g c =
     let m = g.S.ByteSink.means c.args.sink.now in
     let n = g.S.ByteSink.means c.loop-i.sink in
     let h = subst (λ (r : List ℕ). Rest u v m n i xs r) (drop_more xs i 0 c.loop-i-test.true) c.loop-i.invariant.0 in
-    let d = halted u v m n i xs b _ h (meant undo_fault g.S.SinkFault.Refusal.means c.in-Some.stop) (sym c.in-Some.ensures.stop) in
+    let d = halted u v m n i xs b _ h (meant own_fault g.S.SinkFault.Refusal.means c.in-Some.stop) (sym c.in-Some.ensures.stop) in
     record {
       count = d.count;
       stop = d.stop;

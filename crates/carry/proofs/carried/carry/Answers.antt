@@ -2,7 +2,7 @@ use Rattle.std.proofs.Common.{◌≡◌, ℕ, true, List, length, take, drop, So
 use native.Mathlib.Nat.{sub-zero}
 use Rattle.std.specs.declared.alloc.Global.{Global}
 use Rattle.fault.specs.Answers.{told, answer}
-use Rattle.fault.specs.Kinds.{end_fault, stage_fault, undo_fault}
+use Rattle.fault.specs.Kinds.{own_fault, layer_fault}
 use Rattle.orders.specs.declared.phase.Phase.TheVariants.{Running}
 use Rattle.orders.specs.Phases.{phased}
 use Rattle.orders.specs.Steps.{shown}
@@ -22,7 +22,7 @@ use Rattle.carry.proofs.carried.carry.Goals.{in-Ok, in-Err}
 use Rattle.carry.proofs.carried.carry.Goals as goal
 
 means : Dot MemoryEnd → Sink
-means s = layer_means dot (memory_means s.below.memory s.below.len (phased end_fault s.below.phase)) s.line (phased stage_fault s.phase) s.place
+means s = layer_means dot (memory_means s.below.memory s.below.len (phased own_fault s.below.phase)) s.line (phased layer_fault s.phase) s.place
 
 pub returns : goal.returns
 unfolding means
@@ -33,7 +33,7 @@ returns c =
     let s1 = c.send-sent.new.sink in
     let made = c.new-stage.ensures.made in
     let new = c.new.ensures in
-    let m0 : means c.new-stage.result ≡ new_stage v = ap means made ∙ (λ i. layer_means dot (memory_means (new.0 i) (new.1 i) (phased end_fault (new.2 i))) Start Running 0) in
+    let m0 : means c.new-stage.result ≡ new_stage v = ap means made ∙ (λ i. layer_means dot (memory_means (new.0 i) (new.1 i) (phased own_fault (new.2 i))) Start Running 0) in
     let mem : r.0 ≡ s1.below.memory = c.into_memory-memory.ensures.memory ∙ ap (λ (e : MemoryEnd). e.memory) c.into_below.ensures in
     let len : r.1 ≡ s1.below.len = c.into_memory-memory.ensures.len ∙ ap (λ (e : MemoryEnd). e.len) c.into_below.ensures in
     let foot : take r.1 (vec_items r.0) ≡ (means s1).foot = λ i. take (len i) (vec_items (mem i)) in
@@ -52,14 +52,14 @@ returns c =
       within = in_it;
       trip = elim c.match-sent.branch [
         | in-Ok w ↦
-            let none : (reach (new_stage v) (down body true) true).fault ≡ None = answer_ok _ _ _ (ap (told stage_fault) (sym w.in-Ok.is) ∙ sent) in
+            let none : (reach (new_stage v) (down body true) true).fault ≡ None = answer_ok _ _ _ (ap (told layer_fault) (sym w.in-Ok.is) ∙ sent) in
             let und = c.undoing-undoing.ensures ∙ ap (λ (m : Sink). m.fixed.also) m0 in
             let bytes = ap (λ n. take n w.as_slice.result.now) (sub-zero r.1) ∙ ap (take r.1) w.as_slice.ensures.value in
             let all = (λ i. returned (passed (und i) (compare_means body 0 Running) (bytes i))) ∙ trip_back v body _ none wire in
-            ap (trip_meant stage_fault undo_fault end_fault) w.trip-is ∙ w.return_wire-trip.ensures ∙ ap way_back all ∙ ap (λ x. trip_of x (shown body)) (sym none)
+            ap (trip_meant layer_fault own_fault own_fault) w.trip-is ∙ w.return_wire-trip.ensures ∙ ap way_back all ∙ ap (λ x. trip_of x (shown body)) (sym none)
         | in-Err w ↦
-            let some : (reach (new_stage v) (down body true) true).fault ≡ Some (stage_fault w.in-Err.f) = answer_err _ _ _ (ap (told stage_fault) (sym w.in-Err.is) ∙ sent) in
-            ap (trip_meant stage_fault undo_fault end_fault) w.trip-is ∙ ap (λ x. trip_of x (shown body)) (sym some)
+            let some : (reach (new_stage v) (down body true) true).fault ≡ Some (layer_fault w.in-Err.f) = answer_err _ _ _ (ap (told layer_fault) (sym w.in-Err.is) ∙ sent) in
+            ap (trip_meant layer_fault own_fault own_fault) w.trip-is ∙ ap (λ x. trip_of x (shown body)) (sym some)
       ];
       stuffed = λ ls clean e room. trip_stuffed v body ls clean e room;
     }

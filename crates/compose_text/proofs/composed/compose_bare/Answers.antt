@@ -1,7 +1,7 @@
 use Rattle.std.proofs.Common.{◌≡◌, ℕ, List, [], length, take, drop, vec_items, Vec, sym, ap, ◌∙◌, subst, ap₂, arith}
 use Rattle.std.specs.declared.alloc.Global.{Global}
 use Rattle.std.proofs.lemmas.List.{append-nil, length-take-le}
-use Rattle.fault.specs.Kinds.{composer_fault, end_fault}
+use Rattle.fault.specs.Kinds.{layer_fault, own_fault}
 use Rattle.orders.specs.Phases.{phased}
 use Rattle.sink.specs.Sink.{Sink}
 use Rattle.taker.specs.Paragraph.{Taker}
@@ -18,7 +18,7 @@ use Rattle.compose_text.proofs.Writing.{composed_so}
 use Rattle.compose_text.proofs.composed.compose_bare.Goals as goal
 
 below : MemoryEnd → Sink
-below e = memory_means e.memory e.len (phased end_fault e.phase)
+below e = memory_means e.memory e.len (phased own_fault e.phase)
 
 means : Composer MemoryEnd → Taker ℕ
 means c = means_of below c
@@ -32,12 +32,12 @@ returns c =
     let a = c.new-composer.result in
     let d = c.write-outcome.new.composer in
     let new = c.new.ensures in
-    let start : means a ≡ new_means w (bare v) = c.new-composer.ensures.means ∙ (λ i. new_means w (memory_means (new.0 i) (new.1 i) (phased end_fault (new.2 i)))) in
+    let start : means a ≡ new_means w (bare v) = c.new-composer.ensures.means ∙ (λ i. new_means w (memory_means (new.0 i) (new.1 i) (phased own_fault (new.2 i)))) in
     let e = c.into_below.ensures in
     let mem : r.0 ≡ d.below.memory = c.into_memory-memory.ensures.memory ∙ ap (λ (e : MemoryEnd). e.memory) e in
     let len : r.1 ≡ d.below.len = c.into_memory-memory.ensures.len ∙ ap (λ (e : MemoryEnd). e.len) e in
     let foot : take r.1 (vec_items r.0) ≡ (means d).foot = λ i. take (len i) (vec_items (mem i)) in
-    let lawful = composer_lawful (below a.below) (state_of a) (phased composer_fault a.phase) a.place (memory_lawful a.below.memory a.below.len (phased end_fault a.below.phase)) in
+    let lawful = composer_lawful (below a.below) (state_of a) (phased layer_fault a.phase) a.place (memory_lawful a.below.memory a.below.len (phased own_fault a.below.phase)) in
     let grown = c.write-outcome.ensures.written in
     let size = r.0.ok.0 in
     let in_it = c.into_memory-memory.ensures.within in

@@ -1,6 +1,6 @@
 use Rattle.std.proofs.Common.{not, [], ◌∷◌, Some, None, ap}
 use Rattle.fault.specs.Answers.{told}
-use Rattle.fault.specs.Kinds.{composer_fault}
+use Rattle.fault.specs.Kinds.{layer_fault}
 use Rattle.orders.specs.Phases.{phased}
 use Rattle.history.specs.History.{asked, to_finish, asks}
 use Rattle.composer.specs.Composers.{state_of, means_of}
@@ -31,8 +31,8 @@ returns g c =
     let a = c.args.composer.now in
     let b = c.hand_lines-handed.new.taker in
     let d = c.finish.new.self in
-    let r = told composer_fault c.finish.result in
-    let lawful = composer_lawful (below d.below) (state_of d) (phased composer_fault d.phase) d.place (g.S.ByteSink.lawful d.below) in
+    let r = told layer_fault c.finish.result in
+    let lawful = composer_lawful (below d.below) (state_of d) (phased layer_fault d.phase) d.place (g.S.ByteSink.lawful d.below) in
     let e = c.finish.ensures in
     let h = c.hand_lines-handed.ensures.handed in
     let grows = grows_on (means_of below a) (means_of below b) (means_of below d) h.steps (asked to_finish r ∷ []) h.grows (λ s k t. asks t to_finish r e.answered e.changed lawful) in

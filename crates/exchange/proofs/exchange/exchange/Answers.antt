@@ -1,7 +1,7 @@
 use Rattle.std.proofs.Common.{◌≡◌, ℕ, length, drop, Vec, sym, ap, ◌∙◌, subst}
 use Rattle.std.specs.declared.alloc.Global.{Global}
 use Rattle.fault.specs.Answers.{told, via}
-use Rattle.fault.specs.Kinds.{composer_fault, reader_fault}
+use Rattle.fault.specs.Kinds.{layer_fault}
 use Rattle.sink.specs.Sink.{Sink}
 use Rattle.sink.specs.Same.{Matched}
 use Rattle.ends.specs.declared.memory.MemoryEnd.{MemoryEnd}
@@ -31,10 +31,10 @@ returns g c =
     let is_m = c.new_writer-first.ensures.below in
     let is_l = c.new_writer-second.ensures.below in
     let os = exchange_orders c.args.mail.text.now c.args.mail.records.now in
-    let v = via composer_fault c.write-sent.result.refused in
-    let v' = via composer_fault c.write-sent_again.result.refused in
-    let x = told composer_fault c.write-sent.result.finish in
-    let y = told composer_fault c.write-sent_again.result.finish in
+    let v = via layer_fault c.write-sent.result.refused in
+    let v' = via layer_fault c.write-sent_again.result.refused in
+    let x = told layer_fault c.write-sent.result.finish in
+    let y = told layer_fault c.write-sent_again.result.finish in
     let p = written w m (means_of dot_means a) t os v x c.new_writer-first.ensures.begun c.write-sent.ensures.wrote in
     let q = written w l (means_of dot_means b) u os v' y c.new_writer-second.ensures.begun c.write-sent_again.ensures.wrote in
     let mt = g.T.ParagraphTaker.means in
@@ -46,8 +46,8 @@ returns g c =
     let at : wire ≡ t.foot = c.bytes-wire.ensures ∙ ap (λ (k : MemoryEnd). held k.memory k.len) end in
     let r₀ = c.reader_of-reader.result in
     let s₀ = c.reader_of-again.result in
-    let z = told reader_fault c.read_mail-read.result.finish in
-    let z' = told reader_fault c.read_mail-read_again.result.finish in
+    let z = told layer_fault c.read_mail-read.result.finish in
+    let z' = told layer_fault c.read_mail-read_again.result.finish in
     let read = read_from one wire t.foot _ z c.reader_of-reader.ensures.reads at c.read_mail-read.ensures.read in
     let read_again = read_from other wire t.foot _ z' c.reader_of-again.ensures.reads at c.read_mail-read_again.ensures.read in
     let ur : undo_means r₀.undo ≡ undotted = ap (λ (k : Reading g.T.ParagraphTaker.Item). k.undo) c.reader_of-reader.ensures.reads in

@@ -1,7 +1,7 @@
 use Rattle.std.proofs.Common.{◌≡◌, ℕ, ◌-◌, ◌≤◌, List, [], ◌∷◌, ◌++◌, length, take, drop, Option, sym, refl, ap, ◌∙◌, subst, arith, take_all, rules}
 use Rattle.fault.specs.declared.fault.Fault.{Fault}
 use Rattle.fault.specs.Answers.{via, or_else}
-use Rattle.fault.specs.Kinds.{reader_fault}
+use Rattle.fault.specs.Kinds.{layer_fault}
 use Rattle.reader.specs.Readers.{reading_of}
 use Rattle.conversation.specs.Reads.{StepRead, fed, chunk_orders, Reads, begun, feeds, fed_bytes}
 use Rattle.conversation.specs.Reads as reads
@@ -21,11 +21,11 @@ loop-at-preserved g c =
     let piece = take (e - i) (drop i xs) in
     let h = c.loop-at.invariant.1 in
     let f = c.feed-fault.ensures in
-    let fault = via reader_fault c.feed-fault.result.1 in
+    let fault = via layer_fault c.feed-fault.result.1 in
     let within : e ≤ length xs = search rules in
     let on : i ≤ e = search rules in
     let bytes : fed_bytes h.steps ++ piece ≡ take e xs = ap (λ (l : List ℕ). l ++ piece) h.are ∙ sym (take_on i e xs on) in
-    let first = ap (λ (v : Option Fault). or_else v fault) h.first ∙ sym (ap (via reader_fault) c.or-first.ensures ∙ via_or reader_fault c.loop-at.first c.feed-fault.result.1) in (
+    let first = ap (λ (v : Option Fault). or_else v fault) h.first ∙ sym (ap (via layer_fault) c.or-first.ensures ∙ via_or layer_fault c.loop-at.first c.feed-fault.result.1) in (
       within,
       record {
         steps = fed piece c.feed-fault.result.0 fault ∷ h.steps;
@@ -49,6 +49,6 @@ returns g c =
     let xs = c.args.wire.now in
     let all = take_all c.loop-at.at xs c.loop-at-test.false in
     record {
-      fed = subst (λ (l : List ℕ). FedSo (read c.args.reader.now) (read c.loop-at.reader) l (via reader_fault c.loop-at.first)) all c.loop-at.invariant.1;
+      fed = subst (λ (l : List ℕ). FedSo (read c.args.reader.now) (read c.loop-at.reader) l (via layer_fault c.loop-at.first)) all c.loop-at.invariant.1;
       kept = c.loop-at.invariant.2;
     }

@@ -1,6 +1,6 @@
 use Rattle.std.proofs.Common.{◌++◌}
 use Rattle.fault.specs.Answers.{told}
-use Rattle.fault.specs.Kinds.{reader_fault}
+use Rattle.fault.specs.Kinds.{layer_fault}
 use Rattle.reader.specs.Readers.{reading_of}
 use Rattle.conversation.specs.Reads.{finish_orders, finishes}
 use Rattle.exchange.proofs.reading_back.read_mail.Goals as goal
@@ -12,7 +12,7 @@ returns g c =
     let b = c.feed_wire-refused.new.reader in
     let d = c.finish-finish.new.self in
     let h = c.feed_wire-refused.ensures in
-    let z = told reader_fault c.finish-finish.result in
+    let z = told layer_fault c.finish-finish.result in
     record {
       read = record {
         steps = h.fed.steps;

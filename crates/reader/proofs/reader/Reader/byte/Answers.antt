@@ -1,6 +1,6 @@
 use Rattle.std.proofs.Common.{◌≡◌, Some, None, sym, ap, ◌∙◌}
 use Rattle.fault.specs.Answers.{answer}
-use Rattle.fault.specs.Kinds.{reader_fault}
+use Rattle.fault.specs.Kinds.{layer_fault}
 use Rattle.orders.specs.declared.phase.Phase.TheVariants.{Running}
 use Rattle.orders.proofs.Answering.{answer_err, answer_ok}
 use Rattle.reader.specs.Reading.{Reading, wire_byte, with_phase}
@@ -14,7 +14,7 @@ returns-in-Err g c =
     let r = reading_of g.U.UndoStage.means g.T.ParagraphTaker.means s in
     let run = still_running r.phase s.place c.in_default.ensures in
     let t = c.in-Err.ensures in
-    let d = settles r _ (Some (reader_fault c.in-Err.f)) (wire_byte r c.args.b) Running run (answer_err tt _ _ t.answered) t.changed in
+    let d = settles r _ (Some (layer_fault c.in-Err.f)) (wire_byte r c.args.b) Running run (answer_err tt _ _ t.answered) t.changed in
     record { answered = sym (ap (answer tt) d.fault); changed = d.left; kept = t.kept }
 
 pub returns-in_default-answer : goal.returns-in_default-answer

@@ -1,6 +1,6 @@
 use Rattle.std.proofs.Common.{sym, refl, ap, ap₂}
 use Rattle.fault.specs.Answers.{answer}
-use Rattle.fault.specs.Kinds.{composer_fault}
+use Rattle.fault.specs.Kinds.{layer_fault}
 use Rattle.orders.specs.Phases.{phased}
 use Rattle.orders.proofs.Answering.{answer_err, answer_ok}
 use Rattle.taker.specs.Paragraph.{ends}
@@ -27,8 +27,8 @@ returns-in-Ok g c =
     let o = ends c.args.number in
     let run = still_running m (state_of s) s.phase s.place o c.in_default.ensures in
     let t = c.in-Ok.ensures in
-    let d = was_accepted m (state_of s) s.phase s.place o run (sym c.in_default-end_refusal.ensures) _ t.sends.changed (answer_ok tt tt _ t.sends.answered) _ (λ i. record { width = t.width i; opened = s.opened; paragraph = t.closed i }) (phased composer_fault s.phase) (ap (phased composer_fault) run) s.place refl in
-    let v = ok_value composer composer_fault m (state_of s) s.phase s.place o run _ d.leads _ refl _ t.tells in
+    let d = was_accepted m (state_of s) s.phase s.place o run (sym c.in_default-end_refusal.ensures) _ t.sends.changed (answer_ok tt tt _ t.sends.answered) _ (λ i. record { width = t.width i; opened = s.opened; paragraph = t.closed i }) (phased layer_fault s.phase) (ap (phased layer_fault) run) s.place refl in
+    let v = ok_value composer layer_fault m (state_of s) s.phase s.place o run _ d.leads _ refl _ t.tells in
     record { answered = ap₂ answer v (sym d.tells); changed = d.leads; kept = kept _ _ o _ _ d.leads t.sends.behind }
 
 pub returns-in-Err : goal.returns-in-Err
@@ -38,5 +38,5 @@ returns-in-Err g c =
     let o = ends c.args.number in
     let run = still_running m (state_of s) s.phase s.place o c.in_default.ensures in
     let t = c.in-Err.ensures in
-    let d = was_stopped m (state_of s) s.phase s.place o run (sym c.in_default-end_refusal.ensures) _ t.sends.changed (composer_fault c.in-Err.f) (answer_err tt _ _ t.sends.answered) (state_of s) in
+    let d = was_stopped m (state_of s) s.phase s.place o run (sym c.in_default-end_refusal.ensures) _ t.sends.changed (layer_fault c.in-Err.f) (answer_err tt _ _ t.sends.answered) (state_of s) in
     record { answered = sym (ap (answer _) d.tells); changed = d.leads; kept = kept _ _ o _ _ d.leads t.sends.behind }

@@ -1,6 +1,6 @@
 use Rattle.std.proofs.Common.{ℕ, sym, refl, ap, ◌∙◌, ap₂}
 use Rattle.fault.specs.Answers.{answer}
-use Rattle.fault.specs.Kinds.{composer_fault}
+use Rattle.fault.specs.Kinds.{layer_fault}
 use Rattle.orders.specs.declared.phase.Phase.TheVariants.{Closed}
 use Rattle.orders.specs.Steps.{shown}
 use Rattle.orders.proofs.Answering.{answer_err, answer_ok}
@@ -35,5 +35,5 @@ returns-in-Err g c =
     let m = g.S.ByteSink.means s.below in
     let run = still_running m (state_of s) s.phase s.place finishes c.in_default.ensures in
     let t = c.in-Err.ensures in
-    let d = was_stopped m (state_of s) s.phase s.place finishes run (sym c.in_default-finish_refusal.ensures) _ t.changed (composer_fault c.in-Err.f) (answer_err _ _ _ t.answered) (state_of s) in
+    let d = was_stopped m (state_of s) s.phase s.place finishes run (sym c.in_default-finish_refusal.ensures) _ t.changed (layer_fault c.in-Err.f) (answer_err _ _ _ t.answered) (state_of s) in
     record { answered = sym (ap (answer _) d.tells); changed = d.leads; kept = kept _ _ finishes _ _ d.leads t.behind }

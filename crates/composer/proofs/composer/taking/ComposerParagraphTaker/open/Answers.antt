@@ -1,6 +1,6 @@
 use Rattle.std.proofs.Common.{◌+◌, sym, refl, ap, ap₂}
 use Rattle.fault.specs.Answers.{answer}
-use Rattle.fault.specs.Kinds.{composer_fault}
+use Rattle.fault.specs.Kinds.{layer_fault}
 use Rattle.orders.specs.Phases.{phased}
 use Rattle.taker.specs.Paragraph.{opens}
 use Rattle.layer.proofs.ByPhase.{ok_value}
@@ -26,6 +26,6 @@ returns g c =
     let m = g.S.ByteSink.means s.below in
     let o = opens c.args.depth in
     let run = still_running m (state_of s) s.phase s.place o c.in_default.ensures in
-    let d = was_accepted m (state_of s) s.phase s.place o run (sym c.in_default-open_refusal.ensures) m refl refl _ (λ i. record { width = c.open.ensures.width i; opened = s.opened + 1; paragraph = c.open.ensures.within i }) (phased composer_fault s.phase) (ap (phased composer_fault) run) s.place refl in
-    let v = ok_value composer composer_fault m (state_of s) s.phase s.place o run _ d.leads _ refl _ refl in
+    let d = was_accepted m (state_of s) s.phase s.place o run (sym c.in_default-open_refusal.ensures) m refl refl _ (λ i. record { width = c.open.ensures.width i; opened = s.opened + 1; paragraph = c.open.ensures.within i }) (phased layer_fault s.phase) (ap (phased layer_fault) run) s.place refl in
+    let v = ok_value composer layer_fault m (state_of s) s.phase s.place o run _ d.leads _ refl _ refl in
     record { answered = ap₂ answer v (sym d.tells); changed = d.leads; kept = keeps_same m.foot (g.S.ByteSink.memory s.below) }

@@ -1,6 +1,6 @@
 use Rattle.std.proofs.Common.{sym, refl, ap}
 use Rattle.fault.specs.Answers.{answer}
-use Rattle.fault.specs.Kinds.{composer_fault}
+use Rattle.fault.specs.Kinds.{layer_fault}
 use Rattle.orders.specs.Phases.{phased}
 use Rattle.orders.proofs.Answering.{answer_err, answer_ok}
 use Rattle.taker.specs.Paragraph.{texts}
@@ -25,7 +25,7 @@ returns-in-Ok g c =
     let o = texts c.args.b in
     let run = still_running m (state_of s) s.phase s.place o c.in_default.ensures in
     let t = c.in-Ok.ensures in
-    let d = was_accepted m (state_of s) s.phase s.place o run (sym c.in_default-refusal.ensures) _ t.sends.changed (answer_ok tt tt _ t.sends.answered) _ (λ i. record { width = t.width i; opened = s.opened; paragraph = t.within refl i }) (phased composer_fault s.phase) (ap (phased composer_fault) run) _ c.saturating_add-self.ensures in
+    let d = was_accepted m (state_of s) s.phase s.place o run (sym c.in_default-refusal.ensures) _ t.sends.changed (answer_ok tt tt _ t.sends.answered) _ (λ i. record { width = t.width i; opened = s.opened; paragraph = t.within refl i }) (phased layer_fault s.phase) (ap (phased layer_fault) run) _ c.saturating_add-self.ensures in
     record { answered = sym (ap (answer tt) d.tells); changed = d.leads; kept = kept _ _ o _ _ d.leads t.sends.behind }
 
 pub returns-in-Err : goal.returns-in-Err
@@ -35,5 +35,5 @@ returns-in-Err g c =
     let o = texts c.args.b in
     let run = still_running m (state_of s) s.phase s.place o c.in_default.ensures in
     let t = c.in-Err.ensures in
-    let d = was_stopped m (state_of s) s.phase s.place o run (sym c.in_default-refusal.ensures) _ t.sends.changed (composer_fault c.in-Err.f) (answer_err tt _ _ t.sends.answered) (state_of s) in
+    let d = was_stopped m (state_of s) s.phase s.place o run (sym c.in_default-refusal.ensures) _ t.sends.changed (layer_fault c.in-Err.f) (answer_err tt _ _ t.sends.answered) (state_of s) in
     record { answered = sym (ap (answer tt) d.tells); changed = d.leads; kept = kept _ _ o _ _ d.leads t.sends.behind }

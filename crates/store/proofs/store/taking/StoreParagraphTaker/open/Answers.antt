@@ -31,5 +31,5 @@ returns-in-None c =
     let h = c.in-None.ensures in
     let f = c.shut_full.ensures in
     let same = h.same in
-    let t = refused_from a b o p _ _ (open_full b (runs_on a b o p) c.args.depth (passes_on a b o p) h.full c.shut_full.new.self c.shut_full.result (f.holds ∙ ap contents same) f.phase f.cause (f.place ∙ ap (λ (s : Store). min s.used most) same)) in
+    let t = refused_from a b o p _ _ (open_full b (runs_on a b o p) c.args.depth (passes_on a b o p) h.full c.shut_full.new.self c.shut_full.result (f.holds ∙ ap contents same) f.phase f.cause (f.place ∙ ap (λ (s : Store). min s.used most) same) f.layer) in
     record { answered = sym (ap (answer _) t.told); changed = t.left; kept = t.kept }
