@@ -18,9 +18,9 @@ use crate::trip::Trip;
 use dot::dot::Dot;
 use ends::compare::CompareEnd;
 use ends::memory::MemoryEnd;
+use fault::layer_fault::LayerFault;
 use fault::own_fault::OwnFault;
 use fault::refusal::Refusal;
-use fault::layer_fault::LayerFault;
 use sink::byte_sink::ByteSink;
 use undo::stage::UndoStage;
 

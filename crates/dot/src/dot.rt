@@ -1,11 +1,13 @@
 // The dot stage: a 2E at a line beginning goes out twice, and close adds the end mark.
 ghost use Rattle.std.specs.Prelude.{◌≡◌, ℕ, true, false};
-ghost use Rattle.fault.specs.Answers.{told, answer, raised};
+ghost use Rattle.fault.specs.declared.layer.Layer.TheVariants.{Dot as dot_layer};
+ghost use Rattle.fault.specs.Answers.{told, answer, raised, arisen};
+ghost use Rattle.fault.specs.Faults.{own as arises};
 ghost use Rattle.fault.specs.Kinds.{layer_fault};
-ghost use Rattle.orders.specs.declared.phase.Phase.TheVariants.{Running as Open};
+ghost use Rattle.orders.specs.declared.phase.Phase.TheVariants.{Running as Open, Shut as shut_by};
 ghost use Rattle.orders.specs.Steps.{shown};
 ghost use Rattle.orders.specs.Lists.{sent, sent_fault};
-ghost use Rattle.orders.specs.Phases.{phased};
+ghost use Rattle.orders.specs.Phases.{phased, running};
 ghost use Rattle.orders.specs.Behind.{Behind};
 ghost use Rattle.sink.specs.Sink.{down};
 ghost use Rattle.layer.specs.Layer.{layer_means};
@@ -19,8 +21,8 @@ use crate::line::LineState;
 use crate::undot::DotUndo;
 use fault::cause::Cause;
 use fault::layer::Layer;
-use fault::rise::from_below;
 use fault::layer_fault::LayerFault;
+use fault::rise::from_below;
 use orders::phase::Phase;
 use sink::byte_sink::ByteSink;
 use undo::pair::Pair;
@@ -41,10 +43,7 @@ fn next_line(line: LineState, b: u8) -> Option<LineState>
 fn doubles(line: LineState, b: u8) -> bool
     ensures { result ≡ leads line b }
 {
-    match line {
-        LineState::Start => b == 0x2E,
-        _ => false,
-    }
+    line == LineState::Start && b == 0x2E
 }
 
 // One byte down, or the same byte twice.
@@ -71,8 +70,7 @@ fn send_end<S: ByteSink>(below: &mut S) -> Result<u32, LayerFault>
     from_below(below.put(0x2E))?;
     from_below(below.put(0x0D))?;
     from_below(below.put(0x0A))?;
-    let n = from_below(below.close())?;
-    Ok(n)
+    Ok(from_below(below.close())?)
 }
 
 #[derive(Drop)]
@@ -118,6 +116,31 @@ impl<S: ByteSink> Dot<S> {
     }
 }
 
+impl<S> Dot<S> {
+    // A fault that arises in the stage.
+    fn own(&self, cause: Cause) -> LayerFault
+        ensures { layer_fault result ≡ arises cause dot_layer self.now.place }
+    {
+        LayerFault::own(cause, Layer::Dot, self.place)
+    }
+
+    // Refused once it was closed or shut.
+    fn running(&self) -> Result<(), LayerFault>
+        ensures { told layer_fault result ≡ arisen dot_layer self.now.place (running self.now.phase) }
+    {
+        self.phase.running().map_err(|cause| self.own(cause))
+    }
+
+    // Refused with the stage's own cause, and shut.
+    fn refuse(&mut self, cause: Cause) -> LayerFault
+        ensures fault { layer_fault result ≡ arises cause dot_layer self.old.place }
+        ensures shut { self.new ≡ record { below = self.old.below; line = self.old.line; phase = shut_by result; place = self.old.place } }
+    {
+        let f = self.own(cause);
+        self.phase.shut(f)
+    }
+}
+
 impl<S: ByteSink> ByteSink for Dot<S> {
     type SinkFault = LayerFault;
 
@@ -130,54 +153,30 @@ impl<S: ByteSink> ByteSink for Dot<S> {
     ghost memory = { λ s. S.ByteSink.memory s.below };
 
     fn put(&mut self, b: u8) -> Result<(), LayerFault> {
-        let place = self.place;
-        match self.phase {
-            Phase::Closed => Err(LayerFault::own(Cause::AfterClose, Layer::Dot, place)),
-            Phase::Shut(_) => Err(LayerFault::own(Cause::AfterShut, Layer::Dot, place)),
-            Phase::Running => {
-                let line = self.line;
-                let Some(after) = next_line(line, b) else {
-                    let f = LayerFault::own(Cause::Unpaired, Layer::Dot, place);
-                    self.phase = Phase::Shut(f);
-                    return Err(f);
-                };
-                match send(&mut self.below, b, doubles(line, b)) {
-                    Ok(()) => {
-                        self.line = after;
-                        self.place = place.saturating_add(1);
-                        Ok(())
-                    }
-                    Err(f) => {
-                        self.phase = Phase::Shut(f);
-                        Err(f)
-                    }
-                }
-            }
+        self.running()?;
+        let line = self.line;
+        let Some(after) = next_line(line, b) else {
+            return Err(self.refuse(Cause::Unpaired));
+        };
+        if let Err(f) = send(&mut self.below, b, doubles(line, b)) {
+            return Err(self.phase.shut(f));
         }
+        self.line = after;
+        self.place = self.place.saturating_add(1);
+        Ok(())
     }
 
     fn close(&mut self) -> Result<u32, LayerFault> {
-        let place = self.place;
-        match self.phase {
-            Phase::Closed => Err(LayerFault::own(Cause::AfterClose, Layer::Dot, place)),
-            Phase::Shut(_) => Err(LayerFault::own(Cause::AfterShut, Layer::Dot, place)),
-            Phase::Running => match self.line {
-                LineState::Start => match send_end(&mut self.below) {
-                    Ok(n) => {
-                        self.phase = Phase::Closed;
-                        Ok(n)
-                    }
-                    Err(f) => {
-                        self.phase = Phase::Shut(f);
-                        Err(f)
-                    }
-                },
-                _ => {
-                    let f = LayerFault::own(Cause::Incomplete, Layer::Dot, place);
-                    self.phase = Phase::Shut(f);
-                    Err(f)
-                }
-            },
+        self.running()?;
+        let LineState::Start = self.line else {
+            return Err(self.refuse(Cause::Incomplete));
+        };
+        match send_end(&mut self.below) {
+            Ok(n) => {
+                self.phase = Phase::Closed;
+                Ok(n)
+            }
+            Err(f) => Err(self.phase.shut(f)),
         }
     }
 
@@ -186,10 +185,8 @@ impl<S: ByteSink> ByteSink for Dot<S> {
     }
 
     fn is_fresh(&self) -> bool {
-        match (self.phase, self.line) {
-            (Phase::Running, LineState::Start) => self.below.is_fresh(),
-            _ => false,
-        }
+        matches!((self.phase, self.line), (Phase::Running, LineState::Start))
+            && self.below.is_fresh()
     }
 
     fn undoing(&self) -> Pair<S::Undo, DotUndo> {

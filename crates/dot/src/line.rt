@@ -1,5 +1,5 @@
 // Where a stage stands in a line.
-#[derive(Clone, Copy)]
+#[derive(Clone, Copy, Debug, PartialEq, Eq)]
 pub enum LineState {
     Start,
     Within,

@@ -1,5 +1,5 @@
 // Where the undoing stands: in a line, in what may be an end mark, or behind it.
-#[derive(Clone, Copy)]
+#[derive(Clone, Copy, Debug, PartialEq, Eq)]
 pub enum UndoState {
     Start,
     Within,

@@ -1,5 +1,6 @@
 // The undoing of the dot stage.
 ghost use Rattle.std.specs.Prelude.{◌≡◌, None};
+ghost use Rattle.fault.specs.declared.layer.Layer.TheVariants.{DotUndoing as undoing_layer};
 ghost use Rattle.fault.specs.Answers.{via};
 ghost use Rattle.fault.specs.Kinds.{own_fault};
 ghost use Rattle.undo.specs.Undoing.{held_by};
@@ -59,6 +60,18 @@ impl DotUndo {
     }
 }
 
+impl DotUndo {
+    fn fault(&self, cause: Cause) -> OwnFault
+        ensures { result ≡ record { cause = cause; layer = undoing_layer; place = self.now.place } }
+    {
+        OwnFault {
+            cause,
+            layer: Layer::DotUndoing,
+            place: self.place,
+        }
+    }
+}
+
 impl UndoStage for DotUndo {
     ghost means = { λ s. held_by (via own_fault s.standing) (undotting s.place s.state) };
 
@@ -73,11 +86,7 @@ impl UndoStage for DotUndo {
                 Ok(given)
             }
             Err(cause) => {
-                let f = OwnFault {
-                    cause,
-                    layer: Layer::DotUndoing,
-                    place: self.place,
-                };
+                let f = self.fault(cause);
                 self.standing = Some(f);
                 Err(f)
             }
@@ -90,11 +99,7 @@ impl UndoStage for DotUndo {
         }
         match self.state {
             UndoState::Ended => Ok(()),
-            _ => Err(OwnFault {
-                cause: Cause::Incomplete,
-                layer: Layer::DotUndoing,
-                place: self.place,
-            }),
+            _ => Err(self.fault(Cause::Incomplete)),
         }
     }
 }

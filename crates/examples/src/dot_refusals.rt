@@ -2,8 +2,8 @@
 use crate::seen::numbers;
 use dot::dot::Dot;
 use ends::compare::CompareEnd;
-use fault::refusal::Refusal;
 use fault::layer_fault::LayerFault;
+use fault::refusal::Refusal;
 use sink::byte_sink::ByteSink;
 use sink::feed::feed;
 use std::process::Abort;

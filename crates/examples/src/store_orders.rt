@@ -1,7 +1,7 @@
 // The store: every order in every state, and small memories.
 use crate::seen::numbers;
-use fault::refusal::Refusal;
 use fault::own_fault::OwnFault;
+use fault::refusal::Refusal;
 use std::process::Abort;
 use std::test::Fail;
 use store::record::Record;

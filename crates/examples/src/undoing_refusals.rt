@@ -1,8 +1,8 @@
 // Each refusal of the undoing of the dot stage, alone and in a pair.
 use crate::seen::numbers;
 use dot::undot::DotUndo;
-use fault::refusal::Refusal;
 use fault::own_fault::OwnFault;
+use fault::refusal::Refusal;
 use std::process::Abort;
 use std::test::Fail;
 use undo::pair::Pair;

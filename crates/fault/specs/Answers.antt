@@ -1,7 +1,9 @@
 -- Answers: a value, or a fault.
-use Rattle.std.specs.Prelude.{Some, None, Ok, Err, Option, Result}
+use Rattle.std.specs.Prelude.{ℕ, Some, None, Ok, Err, Option, Result}
 use Rattle.fault.specs.declared.fault.Fault.{Fault}
-use Rattle.fault.specs.Faults.{raise}
+use Rattle.fault.specs.declared.cause.Cause.{Cause}
+use Rattle.fault.specs.declared.layer.Layer.{Layer}
+use Rattle.fault.specs.Faults.{own, raise}
 
 -- the answer r, by the fault that it means
 abbrev pub told : {T E : Type 0} → (E → Fault) → Result T E → Result T Fault
@@ -26,3 +28,8 @@ raised (Some f) = Some (raise f)
 abbrev pub or_else : Option Fault → Option Fault → Option Fault
 or_else (Some f) g = Some f
 or_else None g = g
+
+-- an answer with a cause, as a fault that arises in the layer, at the place
+abbrev pub arisen : {T : Type 0} → Layer → ℕ → Result T Cause → Result T Fault
+arisen l n (Ok x) = Ok x
+arisen l n (Err c) = Err (own c l n)

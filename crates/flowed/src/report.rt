@@ -9,10 +9,10 @@ use crate::words::InWords;
 use carry::carried::Carried;
 use carry::stop::Stop;
 use carry::trip::Trip;
-use fault::own_fault::OwnFault;
 use fault::fault::Fault;
-use fault::refusal::Refusal;
 use fault::layer_fault::LayerFault;
+use fault::own_fault::OwnFault;
+use fault::refusal::Refusal;
 use line_ends::count::{count_leading_dots, count_lines};
 use std::fmt;
 

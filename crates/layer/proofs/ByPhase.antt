@@ -1,5 +1,5 @@
 -- What the code of a layer comes to, at each phase.
-use Rattle.std.proofs.Common.{◌≡◌, ℕ, Bool, true, false, cond, List, [], Some, None, Option, sym, refl, ap, ◌∙◌, arith}
+use Rattle.std.proofs.Common.{◌≡◌, ℕ, Bool, true, false, cond, List, [], Some, None, Option, Err, sym, refl, ap, ◌∙◌, subst, arith}
 use Rattle.orders.specs.declared.phase.Phase.{Phase}
 use Rattle.orders.specs.declared.phase.Phase.TheVariants.{Running, Closed, Shut}
 use Rattle.fault.specs.declared.fault.Fault.{Fault}
@@ -7,13 +7,13 @@ use Rattle.fault.specs.declared.cause.Cause.{Cause}
 use Rattle.fault.specs.declared.cause.Cause.TheVariants.{AfterClose, AfterShut}
 use Rattle.fault.specs.Faults.{leaves}
 use Rattle.fault.specs.Faults.{own, raise}
-use Rattle.fault.specs.Answers.{raised}
+use Rattle.fault.specs.Answers.{raised, arisen}
 use Rattle.orders.specs.Meaning.{Kind, Meaning}
 use Rattle.orders.specs.Steps.{after, value, shown, place_on}
 use Rattle.orders.specs.Lists.{sent, sent_fault}
 use Rattle.sink.specs.Sink.{Sink, down}
 use Rattle.layer.specs.Layer.{Machine, sends, stops, Stirs, layer_means, layer_says}
-use Rattle.orders.specs.Phases.{gone, phased}
+use Rattle.orders.specs.Phases.{gone, phased, running}
 use Rattle.orders.proofs.Did.{Did}
 use Rattle.orders.proofs.Fills.{raised_none}
 use Rattle.layer.proofs.Steps.{layer_verdict, layer_on, layer_shut, own_verdict, own_shut, own_stays, closed_verdict, closed_stays, shut_verdict, shut_stays}
@@ -27,6 +27,15 @@ module _ {k : Kind} (a : Machine k) {F : Type 0} (fl : F → Fault) (m : Sink) (
 
   pub in_shut : (x : F) → ph ≡ Shut x → Did here here o (Some (own AfterShut a.layer n))
   in_shut x e = rw e (record { tells = shut_verdict a m s n o (fl x); leads = shut_stays a m s n o (fl x) })
+
+  -- refused, since it was closed or shut
+  pub in_over : (f : Fault) → arisen a.layer n (running ph) ≡ Err f → Did here here o (Some f)
+  in_over f = go ph refl
+    where
+      go : (x : Phase F) → ph ≡ x → arisen a.layer n (running x) ≡ Err f → Did here here o (Some f)
+      go Running q e = let z : ◌≡◌ {A = ℕ} 0 1 = cc in absurd (omega arith)
+      go Closed q e = let is : own AfterClose a.layer n ≡ f = cc in subst (λ (y : Fault). Did here here o (Some y)) is (in_closed q)
+      go (Shut x) q e = let is : own AfterShut a.layer n ≡ f = cc in subst (λ (y : Fault). Did here here o (Some y)) is (in_shut x q)
 
   -- a refusal of its own that leaves all as it was
   pub in_mild : ph ≡ Running → (c : Cause) → a.move s o ≡ stops c → leaves c ≡ true → Did here here o (Some (own c a.layer n))

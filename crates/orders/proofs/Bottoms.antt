@@ -1,16 +1,17 @@
 -- What orders do to a taker with nothing below it, at each phase.
-use Rattle.std.proofs.Common.{◌≡◌, ℕ, Bool, true, false, cond, List, [], ◌∷◌, Some, None, Option, sym, refl, ap, ◌∙◌, arith}
+use Rattle.std.proofs.Common.{◌≡◌, ℕ, Bool, true, false, cond, List, [], ◌∷◌, Some, None, Option, Err, sym, refl, ap, ◌∙◌, subst, arith}
 use Rattle.fault.specs.declared.fault.Fault.{Fault}
 use Rattle.fault.specs.declared.cause.Cause.{Cause}
 use Rattle.fault.specs.declared.cause.Cause.TheVariants.{AfterClose, AfterShut}
 use Rattle.fault.specs.Faults.{own, leaves}
+use Rattle.fault.specs.Answers.{arisen}
 use Rattle.orders.specs.declared.phase.Phase.{Phase}
 use Rattle.orders.specs.declared.phase.Phase.TheVariants.{Running, Closed, Shut}
 use Rattle.orders.specs.Meaning.{Kind, Permit, Meaning, refuses}
 use Rattle.orders.specs.Permits.{Filled, fill, Permitted}
 use Rattle.orders.specs.Steps.{finished, if_closing, reached, adds_on, says_on, settled, stays, shuts, mild, after, verdict, place_on}
 use Rattle.orders.specs.Laws.{Sound, Hard}
-use Rattle.orders.specs.Phases.{phased, gone, stands}
+use Rattle.orders.specs.Phases.{phased, gone, stands, running}
 use Rattle.orders.specs.Bottom.{Bottom, Step, takes, stops, state_on, state_after, stepped, run, run_on, bottom_adds, bottom_says, bottom_fresh, bottom_means, Stirs}
 use Rattle.orders.proofs.Did.{Did}
 use Rattle.orders.proofs.Refusing.{refused, refused_stays, refused_shuts}
@@ -27,6 +28,15 @@ module _ {k : Kind} {E : Type 0} (a : Bottom k E) (p : Permit E) (foot : List E)
 
   pub in_shut : (x : F) → ph ≡ Shut x → Did here here o (Some (own AfterShut a.layer n))
   in_shut x e = rw e (record { tells = refused (bottom_means a p foot s (Shut (fl x)) n) o (own AfterShut a.layer n) refl; leads = refused_stays (bottom_means a p foot s (Shut (fl x)) n) o (own AfterShut a.layer n) refl refl })
+
+  -- refused, since it was closed or shut
+  pub in_over : (f : Fault) → arisen a.layer n (running ph) ≡ Err f → Did here here o (Some f)
+  in_over f = go ph refl
+    where
+      go : (x : Phase F) → ph ≡ x → arisen a.layer n (running x) ≡ Err f → Did here here o (Some f)
+      go Running q e = let z : ◌≡◌ {A = ℕ} 0 1 = cc in absurd (omega arith)
+      go Closed q e = let is : own AfterClose a.layer n ≡ f = cc in subst (λ (y : Fault). Did here here o (Some y)) is (in_closed q)
+      go (Shut x) q e = let is : own AfterShut a.layer n ≡ f = cc in subst (λ (y : Fault). Did here here o (Some y)) is (in_shut x q)
 
   own_adds : (c : Cause) → a.step s o ≡ stops c → live.adds [] o ≡ record { items = []; fault = Some (own c a.layer n) }
   own_adds c e = ap (λ (x : Step a.St E). stepped a x n) e

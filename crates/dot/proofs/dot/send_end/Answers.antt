@@ -17,8 +17,8 @@ returns-in_err-from_below-3 g c = record {
   behind = behind_then _ _ (put 10) _ _ _ c.put-3.ensures.changed (behind_then _ _ (put 13) _ _ _ c.put-2.ensures.changed c.put.ensures.behind c.put-2.ensures.behind) c.put-3.ensures.behind;
 }
 
-pub returns-in_err-n : goal.returns-in_err-n
-returns-in_err-n g c = record {
+pub returns-in_err-from_below-4 : goal.returns-in_err-from_below-4
+returns-in_err-from_below-4 g c = record {
   answered = search rules;
   changed = search rules;
   behind = behind_then _ _ close _ _ _ c.close.ensures.changed (behind_then _ _ (put 10) _ _ _ c.put-3.ensures.changed (behind_then _ _ (put 13) _ _ _ c.put-2.ensures.changed c.put.ensures.behind c.put-2.ensures.behind) c.put-3.ensures.behind) c.close.ensures.behind;
