@@ -15,13 +15,14 @@ abbrev pub meant : {U F : Type 0} → (U → Fault) → (F → Fault) → Stop U
 meant u f (by_undoing x) = by_undoing (u x)
 meant u f (by_sink x) = by_sink (f x)
 
-abbrev pub meant_by : {U F : Type 0} → (U → Fault) → (F → Fault) → Option (Stop U F) → Stopped
-meant_by u f None = None
-meant_by u f (Some x) = Some (meant u f x)
-
 abbrev pub told_back : {T U F : Type 0} → (U → Fault) → (F → Fault) → Result T (Stop U F) → Result T (Stop Fault Fault)
 told_back u f (Ok x) = Ok x
 told_back u f (Err x) = Err (meant u f x)
+
+-- x, unless something stopped
+abbrev pub unless : {T : Type 0} → T → Stopped → Result T (Stop Fault Fault)
+unless x None = Ok x
+unless x (Some s) = Err s
 
 abbrev pub at_sink : Option Fault → Stopped
 at_sink None = None

@@ -3,7 +3,7 @@ ghost use Rattle.std.specs.Prelude.{◌≡◌, ℕ, []};
 ghost use Rattle.fault.specs.Kinds.{own_fault};
 ghost use Rattle.orders.specs.Behind.{Behind};
 ghost use Rattle.undo.specs.Undoing.{fed};
-ghost use Rattle.carry.specs.Back.{stop_at, sink_at, meant_by, told_back, passed, returned, sink_left};
+ghost use Rattle.carry.specs.Back.{stop_at, sink_at, told_back, unless, passed, returned, sink_left};
 
 use crate::stop::Stop;
 use fault::own_fault::OwnFault;
@@ -15,40 +15,36 @@ fn pass<U: UndoStage, S: ByteSink>(
     undoing: &mut U,
     sink: &mut S,
     b: u8,
-) -> Option<Stop<OwnFault, S::SinkFault>>
-    ensures stop { meant_by own_fault S.SinkFault.Refusal.means result ≡ stop_at ((U.UndoStage.means undoing.old).takes [] b) (S.ByteSink.means sink.old) }
+) -> Result<(), Stop<OwnFault, S::SinkFault>>
+    ensures stop { told_back own_fault S.SinkFault.Refusal.means result ≡ unless tt (stop_at ((U.UndoStage.means undoing.old).takes [] b) (S.ByteSink.means sink.old)) }
     ensures undoing { U.UndoStage.means undoing.new ≡ fed (U.UndoStage.means undoing.old) b }
     ensures sink { S.ByteSink.means sink.new ≡ sink_at ((U.UndoStage.means undoing.old).takes [] b) (S.ByteSink.means sink.old) }
     ensures behind { Behind (S.ByteSink.means sink.new).foot (S.ByteSink.memory sink.old) (S.ByteSink.memory sink.new) }
 {
-    match undoing.take(b) {
-        Ok(Some(c)) => match sink.put(c) {
-            Ok(()) => None,
-            Err(f) => Some(Stop::Sink(f)),
-        },
-        Ok(None) => None,
-        Err(f) => Some(Stop::Undoing(f)),
+    match undoing.take(b)? {
+        Some(c) => sink.put(c).map_err(Stop::Sink),
+        None => Ok(()),
     }
 }
 
-// How many bytes went through, and what stopped them.
+// How many bytes went through, and what stopped them; told side by side, as a chunk's feeding is, since both are asked for.
 pub fn pass_all<U: UndoStage, S: ByteSink>(
     undoing: &mut U,
     sink: &mut S,
     wire: &[u8],
-) -> (usize, Option<Stop<OwnFault, S::SinkFault>>)
+) -> (usize, Result<(), Stop<OwnFault, S::SinkFault>>)
     ensures count { result.0 ≡ (passed (U.UndoStage.means undoing.old) (S.ByteSink.means sink.old) wire.now).count }
-    ensures stop { meant_by own_fault S.SinkFault.Refusal.means result.1 ≡ (passed (U.UndoStage.means undoing.old) (S.ByteSink.means sink.old) wire.now).stop }
+    ensures stop { told_back own_fault S.SinkFault.Refusal.means result.1 ≡ unless tt (passed (U.UndoStage.means undoing.old) (S.ByteSink.means sink.old) wire.now).stop }
     ensures undoing { U.UndoStage.means undoing.new ≡ (passed (U.UndoStage.means undoing.old) (S.ByteSink.means sink.old) wire.now).undoing }
     ensures sink { S.ByteSink.means sink.new ≡ (passed (U.UndoStage.means undoing.old) (S.ByteSink.means sink.old) wire.now).sink }
     ensures behind { Behind (S.ByteSink.means sink.new).foot (S.ByteSink.memory sink.old) (S.ByteSink.memory sink.new) }
 {
     for (i, b) in wire.iter().enumerate() {
-        if let Some(stop) = pass(undoing, sink, *b) {
-            return (i, Some(stop));
+        if let Err(stop) = pass(undoing, sink, *b) {
+            return (i, Err(stop));
         }
     }
-    (wire.len(), None)
+    (wire.len(), Ok(()))
 }
 
 // A whole wire text: the sink's length at its close, or what stopped it.
@@ -62,15 +58,7 @@ pub fn bring_back<U: UndoStage, S: ByteSink>(
     ensures sink { S.ByteSink.means sink.new ≡ sink_left (passed (U.UndoStage.means undoing.old) (S.ByteSink.means sink.old) wire.now) }
     ensures behind { Behind (S.ByteSink.means sink.new).foot (S.ByteSink.memory sink.old) (S.ByteSink.memory sink.new) }
 {
-    let (_, stop) = pass_all(undoing, sink, wire);
-    if let Some(stop) = stop {
-        return Err(stop);
-    }
-    if let Err(f) = undoing.may_stop() {
-        return Err(Stop::Undoing(f));
-    }
-    match sink.close() {
-        Ok(n) => Ok(n),
-        Err(f) => Err(Stop::Sink(f)),
-    }
+    pass_all(undoing, sink, wire).1?;
+    undoing.may_stop()?;
+    sink.close().map_err(Stop::Sink)
 }

@@ -18,6 +18,7 @@ pub fn send<S: ByteSink>(sink: &mut S, text: &[u8]) -> Result<u32, S::SinkFault>
     ensures behind { Behind (S.ByteSink.means sink.new).foot (S.ByteSink.memory sink.old) (S.ByteSink.memory sink.new) }
 {
     let (_, refused) = feed(sink, text);
+    // what stopped a chunk is told beside its count; to make a Result of it for `?` is no plainer
     if let Some(f) = refused {
         return Err(f);
     }

@@ -1,12 +1,12 @@
-// How a way to the end and back ended.
+// A way to the end and back: how many bytes came back, as they were sent, or why they did not.
 use crate::stop::Stop;
 
-#[derive(Clone, Copy)]
-pub enum Trip<S, U, F> {
+#[derive(Clone, Copy, Debug, PartialEq, Eq)]
+pub enum TripError<S, U, F> {
     // refused on the way to the end
     Refused(S),
     // stopped on the way back
     Stopped(Stop<U, F>),
-    // this many bytes came back, as they were sent
-    CameBack(u32),
 }
+
+pub type Trip<S, U, F> = Result<u32, TripError<S, U, F>>;

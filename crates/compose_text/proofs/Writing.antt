@@ -1,19 +1,15 @@
 -- The finish behind the paragraphs.
-use Rattle.std.proofs.Common.{◌≡◌, ℕ, not, List, ◌++◌, is_some, Some, None, Ok, Err, Option, Result, sym, refl, ap, ◌∙◌, arith}
-use Rattle.fault.specs.declared.fault.Fault.{Fault}
+use Rattle.std.proofs.Common.{◌≡◌, ℕ, not, List, ◌++◌, is_some, Some, None, Ok, Err, Option, Result, refl, ◌∙◌}
 use Rattle.fault.specs.declared.layer_fault.LayerFault.{LayerFault}
 use Rattle.fault.specs.Kinds.{layer_fault}
-use Rattle.fault.specs.Answers.{told, answer}
-use Rattle.orders.specs.Steps.{after, verdict, answered, shown}
 use Rattle.sink.specs.Sink.{Sink}
 use Rattle.taker.specs.Mail.{Paragraph}
-use Rattle.taker.specs.Paragraph.{Taker, finishes}
 use Rattle.history.specs.History.{Step}
 use Rattle.history.specs.Settled.{settled_paragraphs}
 use Rattle.plain_text.specs.Handing.{HandedAll, by_fault}
 use Rattle.plain_text.proofs.Settling.{handed_settled}
 use Rattle.compose_text.specs.declared.composed.Outcome.{Outcome}
-use Rattle.compose_text.specs.Composed.{finish_step, Written, FootTold, ComposedSo, ComposedAs}
+use Rattle.compose_text.specs.Composed.{finish_step, Written, ComposedSo, ComposedAs}
 
 -- a finish lists no paragraph
 finish_settled : (f : Option (Result ℕ LayerFault)) (h : List Step) → settled_paragraphs (finish_step f ++ h) ≡ settled_paragraphs h
@@ -29,14 +25,6 @@ written ps o h handed finished = record {
   steps = refl;
   settled = finish_settled o.finish h ∙ handed_settled ps o.handed.paragraphs o.handed.lines (by_fault layer_fault o.handed.refused) h handed;
 }
-
-accepted : (n x : ℕ) (v : Option Fault) → ◌≡◌ {A = Result ℕ Fault} (Ok n) (answer x v) → n ≡ x
-accepted n x None e = cc
-accepted n x (Some f) e = let z : ◌≡◌ {A = ℕ} 0 1 = cc in absurd (omega arith)
-
-pub foot_told : (r : Result ℕ LayerFault) (m n : Taker ℕ) → told layer_fault r ≡ answered m finishes → n ≡ after m finishes → FootTold (Some r) n.foot
-foot_told (Ok x) m n e c = accepted x (shown (after m finishes).foot) (verdict m finishes) e ∙ ap (λ (l : Taker ℕ). shown l.foot) (sym c)
-foot_told (Err f) m n e c = tt
 
 -- the steps that composed a text are some steps
 pub composed_so : {w : ℕ} {m : Sink} {ps : List Paragraph} {o : Outcome} {wire : List ℕ} → ComposedAs w m ps o wire → ComposedSo w m wire

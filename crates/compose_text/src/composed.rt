@@ -1,21 +1,23 @@
 // The lines of a text as paragraphs through a new composer into memory.
-ghost use Rattle.std.specs.Prelude.{◌≡◌, ℕ, ◌≤◌, take, drop, vec_len};
+ghost use Rattle.std.specs.Prelude.{◌≡◌, ℕ};
 ghost use Rattle.composer.specs.Composers.{means_of};
 ghost use Rattle.composer.specs.Keeping.{Keeps};
+ghost use Rattle.ends.specs.Buffers.{taken, KeptBehind};
 ghost use Rattle.plain_text.specs.Paragraphs.{paragraphs_of};
 ghost use Rattle.plain_text.specs.Grows.{GrowsSome, GrowsBy};
-ghost use Rattle.compose_text.specs.Composed.{bare, dotted, Written, FootTold, ComposedSo, ComposedAs};
+ghost use Rattle.compose_text.specs.Composed.{Written, FootTold, ComposedSo, ComposedAs};
 
 use composer::composer::Composer;
-use dot::dot::Dot;
-use ends::memory::MemoryEnd;
+use ends::buffer::Buffer;
+use ends::pile::Pile;
 use fault::layer_fault::LayerFault;
 use plain_text::line::Depths;
 use plain_text::lines::{Handed, hand_lines};
 use sink::byte_sink::ByteSink;
 use taker::paragraph_taker::ParagraphTaker;
 
-// What became of a text's lines, and of the finish behind them; none where a line was refused.
+// What became of a text's lines, and of the finish behind them; none where a line was refused. Kept side by side, since what is
+// reported of a refused line is how far the others went too.
 #[derive(Clone, Copy)]
 pub struct Outcome {
     pub handed: Handed<LayerFault>,
@@ -42,42 +44,19 @@ fn write<S: ByteSink>(composer: &mut Composer<S>, text: &[u8], depths: Depths) -
 
 #[derive(Drop)]
 pub struct Composed {
-    pub memory: Vec<u8>,
-    // how many bytes of the memory are the wire bytes
-    pub len: usize,
+    // the wire bytes, in front of the memory
+    pub wire: Buffer,
     pub outcome: Outcome,
 }
 
-// Straight into memory.
-pub fn compose_bare(memory: Vec<u8>, width: u32, text: &[u8], depths: Depths) -> Composed
-    ensures wire { ComposedSo width (bare memory) (take result.len result.memory.items) }
-    ensures text { ComposedAs width (bare memory) (paragraphs_of depths text.now) result.outcome (take result.len result.memory.items) }
-    ensures within { result.len ≤ vec_len result.memory }
-    ensures kept { drop result.len result.memory.items ≡ drop result.len memory.items }
+// Into memory, through a pile that is made over it.
+pub fn compose<S: Pile>(memory: Vec<u8>, width: u32, text: &[u8], depths: Depths) -> Composed
+    ensures wire { ComposedSo width (S.Pile.over memory) (taken result.wire) }
+    ensures text { ComposedAs width (S.Pile.over memory) (paragraphs_of depths text.now) result.outcome (taken result.wire) }
+    ensures kept { KeptBehind memory result.wire }
 {
-    let mut composer = Composer::new(MemoryEnd::new(memory), width);
+    let mut composer = Composer::new(S::over(memory), width);
     let outcome = write(&mut composer, text, depths);
-    let (memory, len) = composer.into_below().into_memory();
-    Composed {
-        memory,
-        len,
-        outcome,
-    }
-}
-
-// Through the dot stage into memory.
-pub fn compose_dotted(memory: Vec<u8>, width: u32, text: &[u8], depths: Depths) -> Composed
-    ensures wire { ComposedSo width (dotted memory) (take result.len result.memory.items) }
-    ensures text { ComposedAs width (dotted memory) (paragraphs_of depths text.now) result.outcome (take result.len result.memory.items) }
-    ensures within { result.len ≤ vec_len result.memory }
-    ensures kept { drop result.len result.memory.items ≡ drop result.len memory.items }
-{
-    let mut composer = Composer::new(Dot::new(MemoryEnd::new(memory)), width);
-    let outcome = write(&mut composer, text, depths);
-    let (memory, len) = composer.into_below().into_below().into_memory();
-    Composed {
-        memory,
-        len,
-        outcome,
-    }
+    let wire = composer.into_below().into_buffer();
+    Composed { wire, outcome }
 }

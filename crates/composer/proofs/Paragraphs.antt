@@ -1,22 +1,19 @@
 -- The open paragraph of the code, by what its refusals tell.
-use Rattle.std.proofs.Common.{◌≡◌, ℕ, ◌+◌, ◌<◌, Bool, true, false, cond, eqb, leb, List, Some, None, Ok, Option, Result, sym, refl, ap, ◌∙◌}
-use Rattle.std.proofs.lemmas.Bool.{leb-false, not-true, not-false}
-use Rattle.fault.specs.declared.fault.Fault.{Fault}
+use Rattle.std.proofs.Common.{◌≡◌, ℕ, ◌<◌, ◌≤◌, Bool, true, false, eqb, ltb, leb, is_some, Some, None, Option, sym, refl, ap, ◌∙◌, arith}
+use Rattle.std.specs.Option.{option_map}
+use Rattle.std.proofs.lemmas.Bool.{leb-false, ltb-false, not-true, not-false}
 use Rattle.fault.specs.declared.cause.Cause.{Cause}
-use Rattle.fault.specs.declared.cause.Cause.TheVariants.{BarredByte, OverLimit, NoFolding}
-use Rattle.sink.specs.Sink.{Sink}
+use Rattle.fault.specs.declared.cause.Cause.TheVariants.{TooDeep, BarredByte, OverLimit, NoFolding}
 use Rattle.folding.specs.Text.{space}
-use Rattle.folding.specs.WireLine.{wire_line, wire_lines}
+use Rattle.folding.specs.WireLine.{wire_line}
 use Rattle.folding.specs.Held.{full}
 use Rattle.folding.specs.Incremental.{ending}
 use Rattle.folding.proofs.Ending.{ends_settle}
 use Rattle.folding.proofs.Constructors.{some_none}
 use Rattle.composer.specs.declared.held_line.HeldLine.{HeldLine}
-use Rattle.composer.specs.declared.paragraph.Paragraph.{Paragraph}
-use Rattle.composer.specs.Machine.{Within, limit, barred, refuse_if, lacks_folding, text_refusal, text_bytes, on_text, end_bytes, end_tells}
-use Rattle.composer.specs.State.{held_of, held_text}
-use Rattle.composer.specs.Taking.{Takes, lines_with}
-use Rattle.composer.specs.Paragraphs.{opened_of, within_of}
+use Rattle.composer.specs.Machine.{Within, limit, deepest, open_refusal, end_refusal, barred, refuse_if, lacks_folding, text_refusal, end_bytes}
+use Rattle.composer.specs.State.{held_of}
+use Rattle.composer.specs.Paragraphs.{opened_of}
 use Rattle.composer.proofs.Taking.{valid_of}
 use Rattle.composer.proofs.Holding.{plain_foldable}
 
@@ -38,41 +35,30 @@ allowed w b p e =
     let three = refuses_not (lacks_folding w p b) NoFolding None two.1 in
     record { text = one.0; few = leb-false limit p.bytes two.0; folds = three.0 }
 
-module _ (p : Paragraph) (b : ℕ) (e : text_refusal p.held.width b (within_of p) ≡ None) where
-  pub is_open : p.is_open ≡ true
-  is_open = go p.is_open refl e
-    where
-      go : (x : Bool) → p.is_open ≡ x → text_refusal p.held.width b (cond x (Some (opened_of p)) None) ≡ None → p.is_open ≡ true
-      go true q h = q
-      go false q h = absurd (some_none h)
-
-  pub open_allowed : Allowed p.held.width b (opened_of p)
-  open_allowed = allowed p.held.width b (opened_of p) (ap (λ (x : Bool). text_refusal p.held.width b (cond x (Some (opened_of p)) None)) (sym is_open) ∙ e)
-
-  -- the line is not full
-  pub has_room : eqb b space ≡ false → full p.held.depth (held_of p.held) ≡ false
-  has_room plain =
-      let h = p.held in
-      let some = not-false _ open_allowed.folds in
-      let told = plain_foldable h.depth h.width (held_of h) h.shallow (valid_of h) b plain h.narrow h.lines in
+module _ (h : HeldLine) where
+  -- where a byte other than a space is not refused, the line is not full
+  pub has_room : (bytes : Option ℕ) (b : ℕ) → text_refusal h.margins.width b (option_map (opened_of h) bytes) ≡ None → eqb b space ≡ false → full h.margins.depth (held_of h) ≡ false
+  has_room None b e plain = absurd (some_none e)
+  has_room (Some n) b e plain =
+      let some = not-false _ (allowed h.margins.width b (opened_of h n) e).folds in
+      let told = plain_foldable h.margins.depth h.margins.width (held_of h) h.margins.shallow (valid_of h) b plain h.margins.narrow h.lines in
       not-true _ (sym told ∙ some)
 
--- what an open paragraph sends, and how it goes on
-module _ (p : Paragraph) (o : p.is_open ≡ true) where
-  pub text_sent : (b : ℕ) → wire_lines p.held.depth (lines_with p.held b) ≡ text_bytes p.held.width b (within_of p)
-  text_sent b = ap (λ (x : Bool). text_bytes p.held.width b (cond x (Some (opened_of p)) None)) (sym o)
+  -- the last line of an open paragraph
+  pub end_sent : (bytes : Option ℕ) → is_some (option_map (opened_of h) bytes) ≡ true → wire_line h.margins.depth (ending h.lines (held_of h)) ≡ end_bytes (option_map (opened_of h) bytes)
+  end_sent None e = cc
+  end_sent (Some n) e = ap (wire_line h.margins.depth) (ends_settle h.lines (held_of h) (valid_of h).no_space)
 
-  pub text_on : (b : ℕ) (j : HeldLine) (m n : Sink) (old new : List ℕ) (r : Result (Unit {0}) Fault) → Takes p.held j b m n old new r → r ≡ Ok tt →
-      cond p.is_open (Some (record { depth = j.depth; held = held_text (held_of j); lines = j.lines; bytes = p.bytes + 1 })) None ≡ on_text p.held.width b (within_of p)
-  text_on b j m n old new r t e =
-      ap (λ (x : Bool). cond x (Some (record { depth = j.depth; held = held_text (held_of j); lines = j.lines; bytes = p.bytes + 1 })) None) o
-      ∙ (λ i. Some (record { depth = t.depth i; held = t.held e i; lines = t.lines e i; bytes = p.bytes + 1 }))
-      ∙ ap (λ (x : Bool). on_text p.held.width b (cond x (Some (opened_of p)) None)) (sym o)
+-- an open that is not refused
+pub few_opened : (d n : ℕ) (p : Option Within) → open_refusal d n p ≡ None → n < limit
+few_opened d n None e = leb-false limit n (refuses_not (leb limit n) OverLimit None (refuses_not (ltb deepest d) TooDeep _ e).1).0
+few_opened d n (Some p) e = absurd (some_none e)
 
-  pub end_sent : wire_line p.held.depth (ending p.held.lines (held_of p.held)) ≡ end_bytes (within_of p)
-  end_sent =
-      ap (wire_line p.held.depth) (ends_settle p.held.lines (held_of p.held) (valid_of p.held).no_space)
-      ∙ ap (λ (x : Bool). end_bytes (cond x (Some (opened_of p)) None)) (sym o)
+pub shallow_opened : (d n : ℕ) (p : Option Within) → open_refusal d n p ≡ None → d ≤ deepest
+shallow_opened d n None e = let small = ltb-false deepest d (refuses_not (ltb deepest d) TooDeep _ e).0 in omega arith
+shallow_opened d n (Some p) e = absurd (some_none e)
 
-  pub end_told : p.held.lines + 1 ≡ end_tells (within_of p)
-  end_told = ap (λ (x : Bool). end_tells (cond x (Some (opened_of p)) None)) (sym o)
+-- and an end
+pub end_open : (i n : ℕ) (p : Option Within) → end_refusal i n p ≡ None → is_some p ≡ true
+end_open i n None e = absurd (some_none e)
+end_open i n (Some p) e = refl

@@ -1,7 +1,8 @@
-pub mod Buffer
+pub mod Parts
 pub mod Machine
 pub mod Sending
 pub mod Keeping
+pub mod Allowing
 pub mod State
 pub mod Taking
 pub mod Paragraphs

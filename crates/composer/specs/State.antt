@@ -3,10 +3,10 @@ use Rattle.std.specs.Prelude.{◌++◌, replicate}
 use Rattle.folding.specs.Text.{Text, space}
 use Rattle.folding.specs.Held.{Held}
 use Rattle.composer.specs.declared.held_line.HeldLine.{HeldLine}
-use Rattle.composer.specs.Buffer.{held_by}
+use Rattle.composer.specs.Parts.{held_by}
 
 abbrev pub held_of : HeldLine → Held
-held_of h = held_by h.bytes h.len h.last_break h.spaces
+held_of h = held_by h.line.items h.last_break h.spaces
 
 -- the line and the spaces behind it
 abbrev pub held_text : Held → Text

@@ -14,17 +14,20 @@ text_with h b = held_text (held_of h) ++ b ∷ []
 
 -- the lines that a byte finishes
 abbrev pub lines_with : HeldLine → ℕ → List Text
-lines_with h b = finished_lines h.depth h.width (text_with h b)
+lines_with h b = finished_lines h.margins.depth h.margins.width (text_with h b)
+
+-- how many bytes are held, with the spaces
+abbrev pub held_len : HeldLine → ℕ
+held_len h = length h.line.items + h.spaces
 
 -- how much is counted: the lines that were sent, and the bytes that are held
 abbrev pub counted : HeldLine → ℕ
-counted h = h.lines + (h.len + h.spaces)
+counted h = h.lines + held_len h
 
 -- the lines that the byte finishes went down, and where none was refused, what is left of the text is held
 pub record Takes (h j : HeldLine) (b : ℕ) (m n : Sink) (old new : List ℕ) (r : Result (Unit {0}) Fault) : Type 0 where
-  pub sends : Sends m n old new (wire_lines h.depth (lines_with h b)) r
-  pub depth : j.depth ≡ h.depth
-  pub width : j.width ≡ h.width
+  pub sends : Sends m n old new (wire_lines h.margins.depth (lines_with h b)) r
+  pub margins : j.margins ≡ h.margins
   pub few : counted j ≤ counted h + 1
   pub held : r ≡ Ok tt → held_text (held_of j) ≡ behind_lines (lines_with h b) (text_with h b)
   pub lines : r ≡ Ok tt → j.lines ≡ h.lines + length (lines_with h b)

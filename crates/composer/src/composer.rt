@@ -9,6 +9,7 @@ use crate::paragraph::Paragraph;
 use fault::cause::Cause;
 use fault::layer::Layer;
 use fault::layer_fault::LayerFault;
+use fault::refusal::Arises;
 use orders::phase::Phase;
 use sink::byte_sink::ByteSink;
 
@@ -30,7 +31,7 @@ pub struct Composer<S> {
 fn first_phase(width: u32, fresh: bool) -> Phase<LayerFault>
     ensures { phased layer_fault result ≡ born (good_start width fresh) }
 {
-    if width >= 20 && width <= 998 && fresh {
+    if (20..=998).contains(&width) && fresh {
         Phase::Running
     } else {
         Phase::Shut(LayerFault::own(Cause::BadStart, Layer::Composer, 0))
@@ -54,7 +55,7 @@ impl<S: ByteSink> Composer<S> {
         }
     }
 
-    // The sink below, to look at.
+    // The sink below, to look at. A trait over stages and composers would be more text than it and the next are.
     pub fn below(&self) -> &S
         ensures { result.now ≡ self.now.below }
     {
@@ -65,13 +66,6 @@ impl<S: ByteSink> Composer<S> {
     pub fn into_below(self) -> S
         ensures { result ≡ self.below }
     {
-        let Composer {
-            below,
-            opened: _,
-            paragraph: _,
-            phase: _,
-            place: _,
-        } = self;
-        below
+        self.below
     }
 }

@@ -1,32 +1,29 @@
 // What is held of an open paragraph between two text bytes: the last line so far, and the spaces behind it.
-ghost use Rattle.std.specs.Prelude.{◌≡◌, ◌+◌, ◌≤◌, length};
+ghost use Rattle.std.specs.Prelude.{◌+◌, ◌≤◌, length};
 ghost use Rattle.folding.specs.WireLine.{width as line_width};
 ghost use Rattle.folding.specs.Held.{Valid};
-ghost use Rattle.composer.specs.Buffer.{held_by, line_by};
+ghost use Rattle.composer.specs.Parts.{held_by};
 
-pub(crate) mod breaks;
-mod buffer;
+use crate::held_line::margins::Margins;
+use arrayvec::ArrayVec;
+
+mod breaks;
 mod line;
+pub(crate) mod margins;
 mod sending;
 
 #[derive(Drop)]
 pub struct HeldLine {
     // the line, through its last byte that is no space
-    bytes: [u8; 998],
-    len: usize,
+    line: ArrayVec<u8, 998>,
     // the length of its longest piece that ends at a break
     last_break: Option<usize>,
     // the spaces behind the line, which are text only once another byte follows
     spaces: usize,
     // how many lines of the paragraph were sent
     lines: u32,
-    depth: usize,
-    width: usize,
-    ghost size: { length bytes ≡ 998 },
-    ghost fits: { len ≤ 998 },
-    ghost few: { lines + (len + spaces) ≤ 1000000 },
-    ghost shallow: { depth ≤ 100 },
-    ghost narrow: { width ≤ 998 },
-    ghost short: { line_width depth (line_by bytes len) ≤ 998 },
-    ghost valid: { ∥ Valid depth width (held_by bytes len last_break spaces) ∥₁ },
+    margins: Margins,
+    ghost few: { lines + (length line.items + spaces) ≤ 1000000 },
+    ghost short: { line_width margins.depth line.items ≤ 998 },
+    ghost valid: { ∥ Valid margins.depth margins.width (held_by line.items last_break spaces) ∥₁ },
 }

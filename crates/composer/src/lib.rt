@@ -5,3 +5,4 @@ pub mod composer;
 mod held_line;
 mod paragraph;
 mod wire;
+mod wire_line;

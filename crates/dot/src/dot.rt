@@ -95,7 +95,7 @@ impl<S: ByteSink> Dot<S> {
         }
     }
 
-    // The sink below, to look at.
+    // The sink below, to look at. A trait over stages and composers would be more text than it and the next are.
     pub fn below(&self) -> &S
         ensures { result.now ≡ self.now.below }
     {
@@ -106,38 +106,7 @@ impl<S: ByteSink> Dot<S> {
     pub fn into_below(self) -> S
         ensures { result ≡ self.below }
     {
-        let Dot {
-            below,
-            line: _,
-            phase: _,
-            place: _,
-        } = self;
-        below
-    }
-}
-
-impl<S> Dot<S> {
-    // A fault that arises in the stage.
-    fn own(&self, cause: Cause) -> LayerFault
-        ensures { layer_fault result ≡ arises cause dot_layer self.now.place }
-    {
-        LayerFault::own(cause, Layer::Dot, self.place)
-    }
-
-    // Refused once it was closed or shut.
-    fn running(&self) -> Result<(), LayerFault>
-        ensures { told layer_fault result ≡ arisen dot_layer self.now.place (running self.now.phase) }
-    {
-        self.phase.running().map_err(|cause| self.own(cause))
-    }
-
-    // Refused with the stage's own cause, and shut.
-    fn refuse(&mut self, cause: Cause) -> LayerFault
-        ensures fault { layer_fault result ≡ arises cause dot_layer self.old.place }
-        ensures shut { self.new ≡ record { below = self.old.below; line = self.old.line; phase = shut_by result; place = self.old.place } }
-    {
-        let f = self.own(cause);
-        self.phase.shut(f)
+        self.below
     }
 }
 
@@ -153,31 +122,27 @@ impl<S: ByteSink> ByteSink for Dot<S> {
     ghost memory = { λ s. S.ByteSink.memory s.below };
 
     fn put(&mut self, b: u8) -> Result<(), LayerFault> {
-        self.running()?;
+        self.phase.going(Layer::Dot, self.place)?;
         let line = self.line;
         let Some(after) = next_line(line, b) else {
-            return Err(self.refuse(Cause::Unpaired));
+            return Err(self.phase.refuse(Cause::Unpaired, Layer::Dot, self.place));
         };
-        if let Err(f) = send(&mut self.below, b, doubles(line, b)) {
-            return Err(self.phase.shut(f));
-        }
+        let sent = send(&mut self.below, b, doubles(line, b));
+        self.phase.settle(sent)?;
         self.line = after;
         self.place = self.place.saturating_add(1);
         Ok(())
     }
 
     fn close(&mut self) -> Result<u32, LayerFault> {
-        self.running()?;
+        self.phase.going(Layer::Dot, self.place)?;
         let LineState::Start = self.line else {
-            return Err(self.refuse(Cause::Incomplete));
+            return Err(self.phase.refuse(Cause::Incomplete, Layer::Dot, self.place));
         };
-        match send_end(&mut self.below) {
-            Ok(n) => {
-                self.phase = Phase::Closed;
-                Ok(n)
-            }
-            Err(f) => Err(self.phase.shut(f)),
-        }
+        let closed = send_end(&mut self.below);
+        let n = self.phase.settle(closed)?;
+        self.phase = Phase::Closed;
+        Ok(n)
     }
 
     fn foot_len(&self) -> u32 {

@@ -3,5 +3,6 @@
 
 pub mod dot;
 pub mod line;
+pub mod pile;
 pub mod undo_state;
 pub mod undot;

@@ -44,7 +44,7 @@ fn step(state: UndoState, b: u8) -> Result<(Option<u8>, UndoState), Cause>
 pub struct DotUndo {
     state: UndoState,
     place: u32,
-    // the refusal, which it repeats
+    // the refusal, which it repeats: asked for first, which a `?` over a Result would say no plainer
     standing: Option<OwnFault>,
 }
 
@@ -58,9 +58,7 @@ impl DotUndo {
             standing: None,
         }
     }
-}
 
-impl DotUndo {
     fn fault(&self, cause: Cause) -> OwnFault
         ensures { result ≡ record { cause = cause; layer = undoing_layer; place = self.now.place } }
     {

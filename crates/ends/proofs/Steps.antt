@@ -1,30 +1,37 @@
 -- What orders do to an end.
-use Rattle.std.proofs.Common.{◌≡◌, ℕ, ◌+◌, Bool, false, cond, eqb, List, [], ◌∷◌, ◌++◌, length, Some, None, Option, sym, refl, ap, ◌∙◌, ap₂, arith, ne_eqb}
+use Rattle.std.proofs.Common.{◌≡◌, ℕ, ◌+◌, Bool, true, false, cond, eqb, List, [], ◌∷◌, ◌++◌, length, Some, None, Err, Option, Result, sym, refl, ap, ◌∙◌, ap₂, subst, arith, ne_eqb}
 use Rattle.std.proofs.lemmas.List.{length_push}
 use Rattle.fault.specs.declared.fault.Fault.{Fault}
+use Rattle.fault.specs.declared.cause.Cause.{Cause}
 use Rattle.fault.specs.declared.cause.Cause.TheVariants.{AfterClose, AfterShut}
 use Rattle.fault.specs.declared.layer.Layer.TheVariants.{End}
-use Rattle.fault.specs.Faults.{own}
+use Rattle.fault.specs.Faults.{own, leaves}
+use Rattle.fault.specs.Answers.{arisen}
 use Rattle.orders.specs.declared.phase.Phase.{Phase}
 use Rattle.orders.specs.declared.phase.Phase.TheVariants.{Running, Closed, Shut}
 use Rattle.orders.specs.Meaning.{Permit}
 use Rattle.orders.specs.Permits.{Filled, filled}
 use Rattle.orders.specs.Steps.{grown, after, verdict, shown, reached, finished, settled, stays, shuts, mild}
-use Rattle.orders.specs.Phases.{phased}
+use Rattle.orders.specs.Phases.{phased, running}
 use Rattle.orders.proofs.Did.{Did}
 use Rattle.orders.proofs.Refusing.{refused, refused_stays}
 use Rattle.sink.specs.Sink.{Order, put, close, Sink}
 use Rattle.ends.specs.Ends.{end_means, running_adds}
 
+stays_refused : (m : Sink) (o : Order) (c : Cause) (n : ℕ) (f : Fault) → m.adds [] o ≡ record { items = []; fault = Some (own c End n) } → leaves c ≡ true → ◌≡◌ {A = Result (Unit {0}) Fault} (Err f) (arisen {T = Unit {0}} End n (Err c)) → Did m m o (Some f)
+stays_refused m o c n f e h q =
+    let g : own c End n ≡ f = cc in
+    subst (λ (x : Fault). Did m m o (Some x)) g (record { tells = refused m o (own c End n) e; leads = refused_stays m o (own c End n) e h })
+
+-- closed or shut
+pub in_over : (p : Permit ℕ) (foot : List ℕ) {F : Type 0} (fl : F → Fault) (ph : Phase F) (o : Order) (f : Fault) → Err f ≡ arisen End (shown foot) (running ph) → Did (end_means p foot (phased fl ph)) (end_means p foot (phased fl ph)) o (Some f)
+in_over p foot fl Running o f e = let z : ◌≡◌ {A = ℕ} 0 1 = cc in absurd (omega arith)
+in_over p foot fl Closed o f e = stays_refused (end_means p foot Closed) o AfterClose (shown foot) f refl refl e
+in_over p foot fl (Shut x) o f e = stays_refused (end_means p foot (Shut (fl x))) o AfterShut (shown foot) f refl refl e
+
 module _ (p : Permit ℕ) (foot : List ℕ) {F : Type 0} (fl : F → Fault) (ph : Phase F) where
   abbrev here : Sink
   here = end_means p foot (phased fl ph)
-
-  pub in_closed : (o : Order) → ph ≡ Closed → Did here here o (Some (own AfterClose End (shown foot)))
-  in_closed o e = rw e (record { tells = refused (end_means p foot Closed) o (own AfterClose End (shown foot)) refl; leads = refused_stays (end_means p foot Closed) o (own AfterClose End (shown foot)) refl refl })
-
-  pub in_shut : (o : Order) (x : F) → ph ≡ Shut x → Did here here o (Some (own AfterShut End (shown foot)))
-  in_shut o x e = rw e (record { tells = refused (end_means p foot (Shut (fl x))) o (own AfterShut End (shown foot)) refl; leads = refused_stays (end_means p foot (Shut (fl x))) o (own AfterShut End (shown foot)) refl refl })
 
   abbrev at : Option Fault → ℕ → Filled ℕ
   at v b = finished p.ending false None (filled v foot (record { list = foot ++ (b ∷ []); fault = None }))

@@ -56,13 +56,13 @@ caused : (x : Bool) (c : Cause) (p : ℕ) (f : Fault) → leaves c ≡ false →
 caused true c p f h e = let z : ◌≡◌ {A = ℕ} 0 1 = cc in absurd (omega arith)
 caused false c p f h e = let q : own c End p ≡ f = cc in ap (λ (g : Fault). leaves g.cause) (sym q) ∙ h
 
-fits_hard : (n : ℕ) → Hard (fits n)
+pub fits_hard : (n : ℕ) → Hard (fits n)
 fits_hard n = record {
   bars = λ l x f e. caused (nat_lt (length l) n) Full (shown l) f refl e;
   ending = λ l f e. let z : ◌≡◌ {A = ℕ} 0 1 = cc in absurd (omega arith);
 }
 
-matches_hard : (ref : List ℕ) → Hard (matches ref)
+pub matches_hard : (ref : List ℕ) → Hard (matches ref)
 matches_hard ref = record {
   bars = λ l x f e. barred (nat_lt (length l) (length ref)) (slice_index ref (length l) == x) (shown l) f e;
   ending = λ l f e. ended (nat_lt (length l) (length ref)) (shown l) f e;
@@ -95,14 +95,20 @@ matches_all ref foot (x ∷ xs) rest e =
     let y : slice_index_or ref (length foot) 0 ≡ x = rw (← r) (get_or_at foot x (xs ++ rest) 0 (length foot) refl) in
     step (matches ref).bars foot x xs (rw (lt-ltb (length foot) (length ref) n, eq-eqb (slice_index ref (length foot)) x y) refl) (matches_all ref (foot ++ (x ∷ [])) xs rest (ap (λ (z : List ℕ). z ++ rest) (append_assoc foot (x ∷ []) xs) ∙ e))
 
-pub memory_lawful : (v : Vec ℕ Global) (n : ℕ) (ph : Phase Fault) → Lawful (memory_means v n ph)
-memory_lawful v n ph =
+pub held_fits : (v : Vec ℕ Global) (n : ℕ) → Permitted (fits (vec_len v)).bars (held v n)
+held_fits v n =
     let l = length-take n (vec_items v) in
     let k = v.ok.0 in
-    end_lawful (fits (vec_len v)) (held v n) (fits_hard (vec_len v)) (fits_all (vec_len v) [] (held v n) (omega arith)) ph
+    fits_all (vec_len v) [] (held v n) (omega arith)
+
+pub taken_matches : (ref : List ℕ) (n : ℕ) → Permitted (matches ref).bars (take n ref)
+taken_matches ref n = matches_all ref [] (take n ref) (drop n ref) (take-append-drop n ref)
+
+pub memory_lawful : (v : Vec ℕ Global) (n : ℕ) (ph : Phase Fault) → Lawful (memory_means v n ph)
+memory_lawful v n ph = end_lawful (fits (vec_len v)) (held v n) (fits_hard (vec_len v)) (held_fits v n) ph
 
 pub compare_lawful : (ref : List ℕ) (n : ℕ) (ph : Phase Fault) → Lawful (compare_means ref n ph)
-compare_lawful ref n ph = end_lawful (matches ref) (take n ref) (matches_hard ref) (matches_all ref [] (take n ref) (drop n ref) (take-append-drop n ref)) ph
+compare_lawful ref n ph = end_lawful (matches ref) (take n ref) (matches_hard ref) (taken_matches ref n) ph
 
 -- a reference permits itself, and may be closed on
 pub whole_matches : (ref : List ℕ) → Permitted (matches ref).bars ref

@@ -1,144 +1,49 @@
 // The end that keeps what it takes in memory handed over by the caller.
-ghost use Rattle.std.specs.Prelude.{◌≡◌, ℕ, ◌≤◌, vec_len};
-ghost use Rattle.fault.specs.Kinds.{own_fault};
+ghost use Rattle.std.specs.Prelude.{◌≡◌, refl};
 ghost use Rattle.orders.specs.declared.phase.Phase.TheVariants.{Running as Open};
-ghost use Rattle.orders.specs.Phases.{phased};
-ghost use Rattle.orders.specs.Steps.{shown};
-ghost use Rattle.ends.specs.Ends.{held, memory_means};
-ghost use Rattle.ends.specs.Lawful.{memory_lawful};
+ghost use Rattle.ends.specs.Ends.{memory_means};
+ghost use Rattle.ends.specs.Buffers.{taken};
 
-use fault::cap::capped;
-use fault::cause::Cause;
-use fault::layer::Layer;
-use fault::own_fault::OwnFault;
+use crate::buffer::Buffer;
+use crate::end::End;
+use crate::pile::Pile;
 use orders::phase::Phase;
-use sink::byte_sink::ByteSink;
-use undo::plain::Plain;
 
-#[derive(Drop)]
-pub struct MemoryEnd {
-    memory: Vec<u8>,
-    // how many bytes it took: they stand in front
-    len: usize,
-    phase: Phase<OwnFault>,
-    ghost within: { len ≤ vec_len memory },
-}
+pub type MemoryEnd = End<Buffer>;
 
-impl MemoryEnd {
+impl End<Buffer> {
     pub fn new(memory: Vec<u8>) -> Self
-        ensures { (result.memory ≡ memory) × (result.len ≡ 0) × (result.phase ≡ Open) }
+        ensures { (result.holder.memory ≡ memory) × (result.holder.len ≡ 0) × (result.phase ≡ Open) }
     {
-        MemoryEnd {
-            memory,
-            len: 0,
+        End {
+            holder: Buffer::new(memory),
             phase: Phase::Running,
         }
     }
 
-    fn taken(&self) -> u32
-        ensures { result ≡ shown (held self.now.memory self.now.len) }
-    {
-        capped(self.len)
-    }
-
     // The bytes that it took.
     pub fn bytes(&self) -> &[u8]
-        ensures { result.now ≡ held self.now.memory self.now.len }
+        ensures { result.now ≡ taken self.now.holder }
     {
-        let n = self.len;
-        &self.memory.as_slice()[0..n]
-    }
-
-    // The memory, back, and how many bytes of it were taken.
-    pub fn into_memory(self) -> (Vec<u8>, usize)
-        ensures memory { result.0 ≡ self.memory }
-        ensures len { result.1 ≡ self.len }
-        ensures within { result.1 ≤ vec_len result.0 }
-    {
-        let MemoryEnd {
-            memory,
-            len,
-            phase: _,
-        } = self;
-        (memory, len)
+        self.holder.bytes()
     }
 }
 
-impl ByteSink for MemoryEnd {
-    type SinkFault = OwnFault;
+impl Pile for End<Buffer> {
+    ghost over = { λ v. memory_means v 0 Open };
 
-    type Undo = Plain;
+    ghost buffer = { λ s. s.holder };
 
-    ghost means = { λ s. memory_means s.memory s.len (phased own_fault s.phase) };
-
-    ghost lawful = { λ s. memory_lawful s.memory s.len (phased own_fault s.phase) };
-
-    ghost memory = { λ s. s.memory.items };
-
-    fn put(&mut self, b: u8) -> Result<(), OwnFault> {
-        let place = self.taken();
-        match self.phase {
-            Phase::Closed => Err(OwnFault {
-                cause: Cause::AfterClose,
-                layer: Layer::End,
-                place,
-            }),
-            Phase::Shut(_) => Err(OwnFault {
-                cause: Cause::AfterShut,
-                layer: Layer::End,
-                place,
-            }),
-            Phase::Running => {
-                let n = self.len;
-                if n < self.memory.len() {
-                    self.memory[n] = b;
-                    self.len = n + 1;
-                    Ok(())
-                } else {
-                    let f = OwnFault {
-                        cause: Cause::Full,
-                        layer: Layer::End,
-                        place,
-                    };
-                    self.phase = Phase::Shut(f);
-                    Err(f)
-                }
-            }
-        }
+    fn over(memory: Vec<u8>) -> Self {
+        MemoryEnd::new(memory)
     }
 
-    fn close(&mut self) -> Result<u32, OwnFault> {
-        let place = self.taken();
-        match self.phase {
-            Phase::Closed => Err(OwnFault {
-                cause: Cause::AfterClose,
-                layer: Layer::End,
-                place,
-            }),
-            Phase::Shut(_) => Err(OwnFault {
-                cause: Cause::AfterShut,
-                layer: Layer::End,
-                place,
-            }),
-            Phase::Running => {
-                self.phase = Phase::Closed;
-                Ok(place)
-            }
-        }
+    fn into_buffer(self) -> Buffer {
+        let End { holder, phase: _ } = self;
+        holder
     }
 
-    fn foot_len(&self) -> u32 {
-        self.taken()
-    }
+    ghost foot = { λ s. refl };
 
-    fn is_fresh(&self) -> bool {
-        match self.phase {
-            Phase::Running => self.len == 0,
-            _ => false,
-        }
-    }
-
-    fn undoing(&self) -> Plain {
-        Plain
-    }
+    ghost bottom = { λ s. refl };
 }

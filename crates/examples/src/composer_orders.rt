@@ -1,8 +1,9 @@
 // The composer: widths, depths, every order in every state, and ends that fill up.
-use crate::seen::numbers;
+use crate::seen::{Numbers, is_fault, numbers, refused};
 use composer::composer::Composer;
 use dot::dot::Dot;
 use ends::memory::MemoryEnd;
+use ends::pile::Pile;
 use fault::layer_fault::LayerFault;
 use fault::refusal::Refusal;
 use sink::byte_sink::ByteSink;
@@ -16,23 +17,6 @@ fn over(rt: &HostRuntime, bytes: usize, width: u32) -> Result<Composer<MemoryEnd
     Ok(Composer::new(MemoryEnd::new(vec![in rt.alloc(); 0xEEu8; bytes]?), width))
 }
 
-fn is_fault(rt: &impl Abort, f: LayerFault, cause: u8, place: u32) -> Result<(), Fail> {
-    assert!(rt; numbers(f.fault()) == (cause, 1, 0, place));
-    Ok(())
-}
-
-fn refused<X: Drop>(
-    rt: &impl Abort,
-    r: Result<X, LayerFault>,
-    cause: u8,
-    place: u32,
-) -> Result<(), Fail> {
-    match r {
-        Ok(_) => Err(Fail::new("accepted")),
-        Err(f) => is_fault(rt, f, cause, place),
-    }
-}
-
 fn answers(rt: &impl Abort, r: Result<u32, LayerFault>, n: u32) -> Result<(), Fail> {
     match r {
         Ok(m) => {
@@ -43,14 +27,9 @@ fn answers(rt: &impl Abort, r: Result<u32, LayerFault>, n: u32) -> Result<(), Fa
     }
 }
 
-fn stands(
-    rt: &impl Abort,
-    composer: &Composer<MemoryEnd>,
-    cause: u8,
-    place: u32,
-) -> Result<(), Fail> {
+fn stands(rt: &impl Abort, composer: &Composer<MemoryEnd>, seen: Numbers) -> Result<(), Fail> {
     match composer.standing() {
-        Some(f) => is_fault(rt, f, cause, place),
+        Some(f) => is_fault(rt, f, seen),
         None => Err(Fail::new("no standing fault")),
     }
 }
@@ -64,9 +43,9 @@ fn widths(rt: HostRuntime) -> Result<(), Fail> {
     }
     for width in [0u32, 19, 999, 4_294_967_295] {
         let mut composer = over(&rt, 8, width)?;
-        stands(&rt, &composer, 12, 0)?;
-        refused(&rt, composer.open(0), 6, 0)?;
-        refused(&rt, composer.finish(), 6, 0)?;
+        stands(&rt, &composer, (12, 1, 0, 0))?;
+        refused(&rt, composer.open(0), (6, 1, 0, 0))?;
+        refused(&rt, composer.finish(), (6, 1, 0, 0))?;
         let (n, f) = feed(&mut composer, b"");
         assert!(rt; n == 0 && f.is_none());
     }
@@ -78,8 +57,8 @@ fn over_a_sink_not_fresh(rt: HostRuntime) -> Result<(), Fail> {
     let mut end = MemoryEnd::new(vec![in rt.alloc(); 0u8; 4]?);
     assert!(rt; end.put(0x61).is_ok());
     let mut composer = Composer::new(end, 20);
-    stands(&rt, &composer, 12, 0)?;
-    refused(&rt, composer.open(0), 6, 0)?;
+    stands(&rt, &composer, (12, 1, 0, 0))?;
+    refused(&rt, composer.open(0), (6, 1, 0, 0))?;
     assert!(rt; composer.foot_len() == 1);
     Ok(())
 }
@@ -87,10 +66,10 @@ fn over_a_sink_not_fresh(rt: HostRuntime) -> Result<(), Fail> {
 #[test]
 fn with_none_open(rt: HostRuntime) -> Result<(), Fail> {
     let mut composer = over(&rt, 300, 20)?;
-    refused(&rt, composer.put(0x61), 2, 0)?;
-    refused(&rt, composer.end(1), 2, 0)?;
-    is_fault(&rt, composer.give_up(1), 2, 0)?;
-    refused(&rt, composer.open(101), 3, 0)?;
+    refused(&rt, composer.put(0x61), (2, 1, 0, 0))?;
+    refused(&rt, composer.end(1), (2, 1, 0, 0))?;
+    is_fault(&rt, composer.give_up(1), (2, 1, 0, 0))?;
+    refused(&rt, composer.open(101), (3, 1, 0, 0))?;
     assert!(rt; composer.standing().is_none());
     answers(&rt, composer.open(100), 1)?;
     answers(&rt, composer.end(1), 1)?;
@@ -103,16 +82,16 @@ fn with_none_open(rt: HostRuntime) -> Result<(), Fail> {
 fn with_one_open(rt: HostRuntime) -> Result<(), Fail> {
     let mut composer = over(&rt, 300, 20)?;
     answers(&rt, composer.open(0), 1)?;
-    refused(&rt, composer.open(0), 1, 0)?;
-    refused(&rt, composer.open(101), 1, 0)?;
-    refused(&rt, composer.finish(), 4, 0)?;
+    refused(&rt, composer.open(0), (1, 1, 0, 0))?;
+    refused(&rt, composer.open(101), (1, 1, 0, 0))?;
+    refused(&rt, composer.finish(), (4, 1, 0, 0))?;
     assert!(rt; composer.standing().is_none());
     assert!(rt; composer.put(0x61).is_ok());
-    refused(&rt, composer.end(2), 11, 1)?;
+    refused(&rt, composer.end(2), (11, 1, 0, 1))?;
     // a wrong number shuts
-    refused(&rt, composer.put(0x61), 6, 1)?;
-    is_fault(&rt, composer.give_up(1), 6, 1)?;
-    stands(&rt, &composer, 11, 1)
+    refused(&rt, composer.put(0x61), (6, 1, 0, 1))?;
+    is_fault(&rt, composer.give_up(1), (6, 1, 0, 1))?;
+    stands(&rt, &composer, (11, 1, 0, 1))
 }
 
 #[test]
@@ -121,17 +100,17 @@ fn barred_given_up_and_finished(rt: HostRuntime) -> Result<(), Fail> {
         let mut composer = over(&rt, 8, 20)?;
         assert!(rt; composer.open(0).is_ok());
         assert!(rt; composer.put(0x61).is_ok());
-        refused(&rt, composer.put(b), 7, 1)?;
-        refused(&rt, composer.end(1), 6, 1)?;
+        refused(&rt, composer.put(b), (7, 1, 0, 1))?;
+        refused(&rt, composer.end(1), (6, 1, 0, 1))?;
     }
     let mut composer = over(&rt, 8, 20)?;
     assert!(rt; composer.open(0).is_ok());
-    is_fault(&rt, composer.give_up(1), 10, 0)?;
-    refused(&rt, composer.open(0), 6, 0)?;
+    is_fault(&rt, composer.give_up(1), (10, 1, 0, 0))?;
+    refused(&rt, composer.open(0), (6, 1, 0, 0))?;
     let mut composer = over(&rt, 8, 20)?;
     answers(&rt, composer.finish(), 0)?;
-    refused(&rt, composer.open(0), 5, 0)?;
-    refused(&rt, composer.finish(), 5, 0)
+    refused(&rt, composer.open(0), (5, 1, 0, 0))?;
+    refused(&rt, composer.finish(), (5, 1, 0, 0))
 }
 
 // Texts of spaces only settle to nothing.
@@ -143,15 +122,15 @@ fn spaces_only(rt: HostRuntime) -> Result<(), Fail> {
         assert!(rt; composer.put(0x20).is_ok());
     }
     assert!(rt; composer.foot_len() == 0);
-    refused(&rt, composer.put(0x20), 8, 1_000_000)?;
-    stands(&rt, &composer, 8, 1_000_000)?;
+    refused(&rt, composer.put(0x20), (8, 1, 0, 1_000_000))?;
+    stands(&rt, &composer, (8, 1, 0, 1_000_000))?;
     let mut composer = over(&rt, 8, 20)?;
     answers(&rt, composer.open(1), 1)?;
     let (n, f) = feed(&mut composer, b"     ");
     assert!(rt; n == 5 && f.is_none());
     answers(&rt, composer.end(1), 1)?;
     answers(&rt, composer.finish(), 3)?;
-    let (memory, len) = composer.into_below().into_memory();
+    let (memory, len) = composer.into_below().into_buffer().into_parts();
     assert!(rt; &memory.as_slice()[0..len] == b">\r\n".as_slice());
     Ok(())
 }
@@ -190,7 +169,7 @@ fn every_size_of_memory(rt: HostRuntime) -> Result<(), Fail> {
             Ok(len) => assert!(rt; size >= WIRE.len() && len as usize == WIRE.len()),
             Err(f) => assert!(rt; size < WIRE.len() && numbers(f.fault()) == (13, 7, 1, n)),
         }
-        let (memory, len) = composer.into_below().into_memory();
+        let (memory, len) = composer.into_below().into_buffer().into_parts();
         assert!(rt; len == size.min(WIRE.len()));
         for (i, b) in memory.as_slice().iter().enumerate() {
             if i < WIRE.len() {
@@ -214,7 +193,7 @@ fn every_size_of_memory_below_dot(rt: HostRuntime) -> Result<(), Fail> {
             Ok(len) => assert!(rt; size >= DOTTED.len() && len as usize == DOTTED.len()),
             Err(f) => assert!(rt; size < DOTTED.len() && numbers(f.fault()) == (13, 7, 2, n)),
         }
-        let (memory, len) = composer.into_below().into_below().into_memory();
+        let (memory, len) = composer.into_below().into_buffer().into_parts();
         assert!(rt; len == size.min(DOTTED.len()));
         for (i, b) in memory.as_slice().iter().enumerate() {
             if i < len {
@@ -247,7 +226,7 @@ fn a_line_without_breaks(rt: HostRuntime) -> Result<(), Fail> {
     for _ in 0..998u32 {
         assert!(rt; composer.put(0x61).is_ok());
     }
-    refused(&rt, composer.put(0x61), 9, 998)?;
+    refused(&rt, composer.put(0x61), (9, 1, 0, 998))?;
     assert!(rt; composer.foot_len() == 0);
-    stands(&rt, &composer, 9, 998)
+    stands(&rt, &composer, (9, 1, 0, 998))
 }

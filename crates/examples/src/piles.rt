@@ -1,10 +1,11 @@
 // Small mails through piles: every size of memory, every cut, a stage over a stage, either end.
 use crate::seen::numbers;
 use carry::carried::carry;
-use carry::trip::Trip;
+use carry::trip::TripError;
 use dot::dot::Dot;
 use ends::compare::CompareEnd;
 use ends::memory::MemoryEnd;
+use ends::pile::Pile;
 use fault::refusal::Refusal;
 use sink::byte_sink::ByteSink;
 use sink::feed::feed;
@@ -20,9 +21,9 @@ const WIRE: &[u8] = b"..x\r\n...\r\nend.\r\n.\r\n";
 fn in_memory_of(rt: &(impl Abort + AllocGlobal), n: u32) -> Result<(), Fail> {
     let size = n as usize;
     let carried = carry(vec![in rt.alloc(); 0xEEu8; size]?, BODY);
-    assert!(rt; carried.len == size.min(WIRE.len()));
-    assert!(rt; carried.memory.len() == size);
-    for (i, b) in carried.memory.as_slice().iter().enumerate() {
+    assert!(rt; carried.wire.bytes().len() == size.min(WIRE.len()));
+    assert!(rt; carried.wire.memory().len() == size);
+    for (i, b) in carried.wire.memory().iter().enumerate() {
         if i < WIRE.len() {
             assert!(rt; *b == WIRE[i]);
         } else {
@@ -30,15 +31,15 @@ fn in_memory_of(rt: &(impl Abort + AllocGlobal), n: u32) -> Result<(), Fail> {
         }
     }
     match carried.trip {
-        Trip::Refused(f) => {
+        Err(TripError::Refused(f)) => {
             assert!(rt; numbers(f.fault()) == (13, 7, 1, n) && size < WIRE.len());
             Ok(())
         },
-        Trip::CameBack(back) => {
+        Ok(back) => {
             assert!(rt; back == 14 && size >= WIRE.len());
             Ok(())
         },
-        Trip::Stopped(_) => Err(Fail::new("stopped on the way back")),
+        Err(TripError::Stopped(_)) => Err(Fail::new("stopped on the way back")),
     }
 }
 
@@ -59,7 +60,7 @@ fn cut_at(rt: &(impl Abort + AllocGlobal), n: usize) -> Result<(), Fail> {
     let (b, f) = feed(&mut stage, &BODY[n..]);
     assert!(rt; b == BODY.len() - n && f.is_none());
     assert!(rt; stage.close().is_ok());
-    let (memory, len) = stage.into_below().into_memory();
+    let (memory, len) = stage.into_buffer().into_parts();
     assert!(rt; len == 19);
     assert!(rt; memory.as_slice() == WIRE);
     Ok(())

@@ -1,11 +1,8 @@
 // The store: every order in every state, and small memories.
-use crate::seen::numbers;
-use fault::own_fault::OwnFault;
-use fault::refusal::Refusal;
-use std::process::Abort;
+use crate::seen::{is_fault, refused};
 use std::test::Fail;
 use store::record::Record;
-use store::store::Store;
+use store::store::{Store, StoreMemory};
 use taker::feed::feed;
 use taker::paragraph_taker::ParagraphTaker;
 use taker::ticket;
@@ -22,30 +19,13 @@ fn empty(rt: &HostRuntime, records: usize, bytes: usize) -> Result<Store, Fail> 
     ))
 }
 
-fn is_fault(rt: &impl Abort, f: OwnFault, cause: u8, place: u32) -> Result<(), Fail> {
-    assert!(rt; numbers(f.fault()) == (cause, 8, 0, place));
-    Ok(())
-}
-
-fn refused<X: Drop>(
-    rt: &impl Abort,
-    r: Result<X, OwnFault>,
-    cause: u8,
-    place: u32,
-) -> Result<(), Fail> {
-    match r {
-        Ok(_) => Err(Fail::new("accepted")),
-        Err(f) => is_fault(rt, f, cause, place),
-    }
-}
-
 #[test]
 fn with_none_open(rt: HostRuntime) -> Result<(), Fail> {
     let mut store = empty(&rt, 1, 4)?;
-    refused(&rt, store.put(0x61), 2, 0)?;
-    refused(&rt, store.end(1), 2, 0)?;
-    is_fault(&rt, store.give_up(1), 2, 0)?;
-    refused(&rt, store.open(101), 3, 0)?;
+    refused(&rt, store.put(0x61), (2, 8, 0, 0))?;
+    refused(&rt, store.end(1), (2, 8, 0, 0))?;
+    is_fault(&rt, store.give_up(1), (2, 8, 0, 0))?;
+    refused(&rt, store.open(101), (3, 8, 0, 0))?;
     let (n, f) = feed(&mut store, b"");
     assert!(rt; n == 0 && f.is_none());
     assert!(rt; store.standing().is_none());
@@ -58,14 +38,14 @@ fn with_none_open(rt: HostRuntime) -> Result<(), Fail> {
 fn with_one_open(rt: HostRuntime) -> Result<(), Fail> {
     let mut store = empty(&rt, 2, 4)?;
     assert!(rt; store.open(0).is_ok());
-    refused(&rt, store.open(0), 1, 0)?;
-    refused(&rt, store.finish(), 4, 0)?;
+    refused(&rt, store.open(0), (1, 8, 0, 0))?;
+    refused(&rt, store.finish(), (4, 8, 0, 0))?;
     assert!(rt; store.put(0x61).is_ok());
-    refused(&rt, store.end(2), 11, 1)?;
+    refused(&rt, store.end(2), (11, 8, 0, 1))?;
     // wrong numbers shut
-    refused(&rt, store.put(0x61), 6, 1)?;
+    refused(&rt, store.put(0x61), (6, 8, 0, 1))?;
     match store.standing() {
-        Some(f) => is_fault(&rt, f, 11, 1),
+        Some(f) => is_fault(&rt, f, (11, 8, 0, 1)),
         None => Err(Fail::new("no standing fault")),
     }
 }
@@ -75,17 +55,17 @@ fn barred_given_up_and_finished(rt: HostRuntime) -> Result<(), Fail> {
     for b in [0x00u8, 0x0A, 0x0D] {
         let mut store = empty(&rt, 1, 4)?;
         assert!(rt; store.open(0).is_ok());
-        refused(&rt, store.put(b), 7, 0)?;
-        refused(&rt, store.finish(), 6, 0)?;
+        refused(&rt, store.put(b), (7, 8, 0, 0))?;
+        refused(&rt, store.finish(), (6, 8, 0, 0))?;
     }
     let mut store = empty(&rt, 1, 4)?;
     assert!(rt; store.open(0).is_ok());
-    is_fault(&rt, store.give_up(1), 10, 0)?;
-    refused(&rt, store.open(0), 6, 0)?;
+    is_fault(&rt, store.give_up(1), (10, 8, 0, 0))?;
+    refused(&rt, store.open(0), (6, 8, 0, 0))?;
     let mut store = empty(&rt, 1, 4)?;
     assert!(rt; store.finish().is_ok());
-    refused(&rt, store.open(0), 5, 0)?;
-    refused(&rt, store.finish(), 5, 0)
+    refused(&rt, store.open(0), (5, 8, 0, 0))?;
+    refused(&rt, store.finish(), (5, 8, 0, 0))
 }
 
 // Two paragraphs by tickets: what the caller's records and bytes hold then.
@@ -113,7 +93,11 @@ fn two_paragraphs(rt: HostRuntime) -> Result<(), Fail> {
         Ok(len) => assert!(rt; len == 9),
         Err(_) => return Err(Fail::new("not finished")),
     }
-    let (records, bytes, ended) = store.into_memory();
+    let StoreMemory {
+        records,
+        bytes,
+        ended,
+    } = store.into_memory();
     assert!(rt; ended == 2);
     assert!(rt; bytes.as_slice() == b"abcde\xEE".as_slice());
     assert!(rt; records.len() == 3);
@@ -130,13 +114,13 @@ fn full(rt: HostRuntime) -> Result<(), Fail> {
     let (n, f) = feed(&mut store, b"abc");
     assert!(rt; n == 2);
     match f {
-        Some(f) => is_fault(&rt, f, 13, 2)?,
+        Some(f) => is_fault(&rt, f, (13, 8, 0, 2))?,
         None => return Err(Fail::new("accepted")),
     }
     let mut store = empty(&rt, 1, 2)?;
     assert!(rt; store.open(0).is_ok());
     assert!(rt; store.end(1).is_ok());
-    refused(&rt, store.open(0), 13, 0)?;
+    refused(&rt, store.open(0), (13, 8, 0, 0))?;
     assert!(rt; store.foot_len() == 2);
     Ok(())
 }

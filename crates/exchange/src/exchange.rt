@@ -11,9 +11,10 @@ ghost use Rattle.exchange.specs.Exchanged.{dotted, exchange_orders, Wrote, Writt
 ghost use Rattle.exchange.specs.Piles.{dot_means, undo_means, undotted};
 ghost use Rattle.exchange.specs.ReadSo.{ReadSo};
 
+use crate::answers::Answers;
 use crate::mail::Mail;
-use crate::reading_back::{ReadBack, read_mail};
-use crate::sending::{Sent, send_mail};
+use crate::reading_back::read_mail;
+use crate::sending::send_mail;
 use composer::composer::Composer;
 use conversation::promise::promise;
 use dot::dot::Dot;
@@ -30,7 +31,7 @@ use undo::plain::Plain;
 type Writer = Composer<Dot<MemoryEnd>>;
 
 // How many bytes a piece has: of the text, for each composer, and of the wire bytes, for each reader.
-#[derive(Clone, Copy)]
+#[derive(Clone, Copy, Debug, PartialEq, Eq)]
 pub struct Cuts {
     pub text: usize,
     pub text_again: usize,
@@ -49,13 +50,13 @@ fn begin<S: ByteSink>(below: S, width: u32) -> Composer<S>
 fn new_writer(memory: Vec<u8>, width: u32) -> Writer
     ensures begun { Reached (new_means width (dot_means result.below)) [] (means_of dot_means result) }
     ensures below { dot_means result.below ≡ dotted memory }
-    ensures memory { result.below.below.memory ≡ memory }
+    ensures memory { result.below.below.holder.memory ≡ memory }
 {
     begin(Dot::new(MemoryEnd::new(memory)), width)
 }
 
 // An end while nothing is open, which is refused and leaves all as it was; and then a mail.
-fn write<T: ParagraphTaker>(taker: &mut T, mail: Mail, cut: usize) -> Sent<T::TakerFault>
+fn write<T: ParagraphTaker>(taker: &mut T, mail: Mail, cut: usize) -> Answers<T::TakerFault>
     ensures wrote { Wrote (T.ParagraphTaker.means taker.old) (T.ParagraphTaker.means taker.new) (exchange_orders mail.entry.text.now mail.entry.records.now) (via T.TakerFault.Refusal.means result.refused) (told T.TakerFault.Refusal.means result.finish) }
     ensures kept { T.ParagraphTaker.keeps taker.old taker.new }
 {
@@ -78,10 +79,10 @@ pub struct Outcome<T, W> {
     pub second: Writer,
     pub reader: Reader<Pair<Plain, DotUndo>, T>,
     pub again: Reader<Pair<Plain, DotUndo>, W>,
-    pub sent: Sent<LayerFault>,
-    pub sent_again: Sent<LayerFault>,
-    pub read: ReadBack,
-    pub read_again: ReadBack,
+    pub sent: Answers<LayerFault>,
+    pub sent_again: Answers<LayerFault>,
+    pub read: Answers<LayerFault>,
+    pub read_again: Answers<LayerFault>,
 }
 
 // A mail through two composers of one width, its text cut at different places, and what the first sent through two
@@ -98,8 +99,8 @@ pub fn exchange<T: ParagraphTaker, W: ParagraphTaker>(
 ) -> Outcome<T, W>
     ensures sent { Written width (dotted memory) (means_of dot_means result.first) (exchange_orders mail.entry.text.now mail.entry.records.now) (via layer_fault result.sent.refused) (told layer_fault result.sent.finish) }
     ensures sent_again { Written width (dotted twin) (means_of dot_means result.second) (exchange_orders mail.entry.text.now mail.entry.records.now) (via layer_fault result.sent_again.refused) (told layer_fault result.sent_again.finish) }
-    ensures memory { Behind (means_of dot_means result.first).foot memory.items result.first.below.below.memory.items }
-    ensures twin { Behind (means_of dot_means result.second).foot twin.items result.second.below.below.memory.items }
+    ensures memory { Behind (means_of dot_means result.first).foot memory.items result.first.below.below.holder.memory.items }
+    ensures twin { Behind (means_of dot_means result.second).foot twin.items result.second.below.below.holder.memory.items }
     ensures read { ReadSo (new_reading undotted (T.ParagraphTaker.means taker)) (reading_of undo_means T.ParagraphTaker.means result.reader) (means_of dot_means result.first).foot (via layer_fault result.read.refused) (told layer_fault result.read.finish) }
     ensures read_again { ReadSo (new_reading undotted (W.ParagraphTaker.means other)) (reading_of undo_means W.ParagraphTaker.means result.again) (means_of dot_means result.first).foot (via layer_fault result.read_again.refused) (told layer_fault result.read_again.finish) }
     ensures kept { T.ParagraphTaker.keeps taker result.reader.delivery.taker }

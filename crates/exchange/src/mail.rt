@@ -10,18 +10,15 @@ pub struct Mail<'a> {
     pub text: &'a [u8],
 }
 
-// The text of a paragraph; none where its record leaves the text.
-pub(crate) fn part<'a>(text: &'a [u8], start: usize, length: usize) -> &'a [u8]
-    ensures { result.now ≡ part_of text.now start length }
-{
-    match start.checked_add(length) {
-        Some(end) => {
-            if end <= text.len() {
-                &text[start..end]
-            } else {
-                &text[0..0]
-            }
-        }
-        None => &text[0..0],
+impl<'a> Mail<'a> {
+    // The text of a paragraph; none where its record leaves the text.
+    pub(crate) fn text_of(self, paragraph: Record) -> &'a [u8]
+        ensures { result.now ≡ part_of self.entry.text.now paragraph.start paragraph.length }
+    {
+        paragraph
+            .start
+            .checked_add(paragraph.length)
+            .and_then(|end| self.text.get(paragraph.start..end))
+            .unwrap_or(&[])
     }
 }

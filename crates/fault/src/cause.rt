@@ -42,7 +42,7 @@ pub enum Cause {
 }
 
 impl Cause {
-    // The number by which a report names the cause.
+    // The number by which a report names the cause; each enum has its own list of numbers, so each casts itself.
     pub fn number(self) -> u8
         ensures { result ≡ cause_number self }
     {
@@ -53,6 +53,7 @@ impl Cause {
     pub fn leaves(self) -> bool
         ensures { result ≡ leaves self }
     {
+        // by number, as the rule is
         self.number() <= 6
     }
 }

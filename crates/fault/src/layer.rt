@@ -13,7 +13,7 @@ pub enum Layer {
 }
 
 impl Layer {
-    // The number by which a report names the layer.
+    // The number by which a report names the layer; it casts itself, as causes do.
     pub fn number(self) -> u8
         ensures { result ≡ layer_number self }
     {

@@ -1,22 +1,19 @@
 // The fault of a layer that has others below it, a stage, the composer or the reader: its own, or one from below, a level higher.
 ghost use Rattle.std.specs.Prelude.{◌≡◌};
-ghost use Rattle.fault.specs.Faults.{own as arises, raise};
+ghost use Rattle.fault.specs.Faults.{raise};
 ghost use Rattle.fault.specs.Kinds.{layer_fault};
 
 use crate::cause::Cause;
 use crate::fault::Fault;
 use crate::layer::Layer;
-use crate::refusal::Refusal;
+use crate::refusal::{Arises, Refusal};
 use crate::rise::Passed;
 
 #[derive(Clone, Copy, Debug, PartialEq, Eq)]
 pub struct LayerFault(Fault);
 
-impl LayerFault {
-    // A fault that arises in the layer.
-    pub fn own(cause: Cause, layer: Layer, place: u32) -> LayerFault
-        ensures { layer_fault result ≡ arises cause layer place }
-    {
+impl Arises for LayerFault {
+    fn own(cause: Cause, layer: Layer, place: u32) -> LayerFault {
         LayerFault(Fault::own(cause, layer, place))
     }
 }

@@ -5,7 +5,7 @@ ghost use Rattle.fault.specs.Kinds.{own_fault};
 use crate::cause::Cause;
 use crate::fault::Fault;
 use crate::layer::Layer;
-use crate::refusal::Refusal;
+use crate::refusal::{Arises, Refusal};
 
 #[derive(Clone, Copy, Debug, PartialEq, Eq)]
 pub struct OwnFault {
@@ -19,5 +19,15 @@ impl Refusal for OwnFault {
 
     fn fault(&self) -> Fault {
         Fault::own(self.cause, self.layer, self.place)
+    }
+}
+
+impl Arises for OwnFault {
+    fn own(cause: Cause, layer: Layer, place: u32) -> OwnFault {
+        OwnFault {
+            cause,
+            layer,
+            place,
+        }
     }
 }

@@ -1,10 +1,8 @@
 -- Whether the body came back.
-use Rattle.std.specs.Prelude.{Bool, true, false}
+use Rattle.std.specs.Prelude.{Bool, true, false, Ok, Err}
 use Rattle.fault.specs.declared.fault.Fault.{Fault}
-use Rattle.carry.specs.declared.trip.Trip.{Trip}
-use Rattle.carry.specs.declared.trip.Trip.TheVariants.{Refused, Stopped, CameBack}
+use Rattle.carry.specs.Trip.{Trip}
 
 abbrev pub came : Trip Fault Fault Fault → Bool
-came (Refused f) = false
-came (Stopped x) = false
-came (CameBack n) = true
+came (Ok n) = true
+came (Err e) = false

@@ -1,3 +1,4 @@
 pub mod Came
 pub mod Mail
 pub mod Compose
+pub mod Usage

@@ -2,8 +2,8 @@
 ghost use Rattle.std.specs.Prelude.{◌≡◌, ◌+◌, ◌^◌, ◌≤◌, length, IfSome, IfNone};
 ghost use Rattle.line_ends.specs.LineEnds.{leading_dots};
 
+use crate::carry_options::CarryOptions;
 use crate::files;
-use crate::options::CarryOptions;
 use crate::report::Report;
 use crate::trouble::Trouble;
 use carry::carried::carry;
@@ -21,36 +21,32 @@ fn room(body: &[u8]) -> Option<usize>
 }
 
 fn body_of(rt: &HostRuntime, options: &CarryOptions) -> Result<Vec<u8>, Trouble> {
-    let bytes = files::read_all(rt, &options.body)?;
+    let bytes = files::read_all(rt, options.files.input.as_deref())?;
     if options.lf {
-        return Ok(to_crlf(rt.alloc(), bytes.as_slice())?);
+        Ok(to_crlf(rt.alloc(), bytes.as_slice())?)
+    } else {
+        Ok(bytes)
     }
-    Ok(bytes)
 }
 
 pub fn run(rt: &HostRuntime, options: &CarryOptions) -> Result<(), Trouble> {
     let body = body_of(rt, options)?;
-    let Some(size) = room(body.as_slice()) else {
-        return Err(Trouble::Memory);
-    };
+    let size = room(body.as_slice()).ok_or(Trouble::Memory)?;
     let memory = vec![in rt.alloc(); 0u8; size]?;
     let carried = carry(memory, body.as_slice());
     let report = Report::new(body.as_slice(), &carried);
     if !report.came_back() {
         eprint!(rt; "{report}")?;
-        return Err(Trouble::Body(options.lf));
+        return Err(if options.lf {
+            Trouble::Body
+        } else {
+            Trouble::BodyWithoutLf
+        });
     }
-    let wire = &carried.memory.as_slice()[0..carried.len];
-    match &options.wire {
-        Some(name) => {
-            files::write_all(rt, name.as_str(), wire)?;
-            if name.as_str() == "-" {
-                eprint!(rt; "{report}")?;
-            } else {
-                print!(rt; "{report}")?;
-            }
-        }
-        None => print!(rt; "{report}")?,
-    }
-    Ok(())
+    files::write_out(
+        rt,
+        options.files.wire.as_deref(),
+        carried.wire.bytes(),
+        &report,
+    )
 }

@@ -1,5 +1,5 @@
 // flowed compose.
-ghost use Rattle.std.specs.Prelude.{◌≡◌, ◌+◌, ◌*◌, ◌^◌, ◌≤◌, length, IfSome, IfNone, IfOk, IfErr, vec_len};
+ghost use Rattle.std.specs.Prelude.{◌≡◌, ◌+◌, ◌*◌, ◌^◌, ◌≤◌, length, IfSome, IfNone, IfOk, IfErr};
 ghost use Rattle.flowed.specs.declared.trouble.Trouble.TheVariants.{Memory as no_memory};
 ghost use Rattle.flowed.specs.Compose.{ComposedIn, Mailed};
 
@@ -7,7 +7,9 @@ use crate::compose_options::ComposeOptions;
 use crate::files;
 use crate::mail_report::MailReport;
 use crate::trouble::Trouble;
-use compose_text::composed::{Composed, compose_bare, compose_dotted};
+use compose_text::composed::{Composed, compose};
+use dot::dot::Dot;
+use ends::memory::MemoryEnd;
 
 // Twice the text, and some: enough for most mails; none where 64 bits cannot tell it.
 fn first_size(text: &[u8]) -> Option<usize>
@@ -17,14 +19,14 @@ fn first_size(text: &[u8]) -> Option<usize>
     text.len().checked_mul(2)?.checked_add(1024)
 }
 
-fn compose(memory: Vec<u8>, options: &ComposeOptions, text: &[u8]) -> Composed
-    ensures composed { ComposedIn memory options.now.dot options.now.width options.now.depths text.now result }
-    ensures within { result.len ≤ vec_len result.memory }
+// Through the dot stage or without it.
+fn compose_into(memory: Vec<u8>, options: &ComposeOptions, text: &[u8]) -> Composed
+    ensures { ComposedIn memory options.now.dot options.now.width options.now.depths text.now result }
 {
     if options.dot {
-        compose_dotted(memory, options.width, text, options.depths)
+        compose::<Dot<MemoryEnd>>(memory, options.width, text, options.depths)
     } else {
-        compose_bare(memory, options.width, text, options.depths)
+        compose::<MemoryEnd>(memory, options.width, text, options.depths)
     }
 }
 
@@ -34,53 +36,29 @@ fn compose_whole(
     options: &ComposeOptions,
     text: &[u8],
 ) -> Result<(Composed, MailReport), Trouble>
-    ensures within { IfOk result (λ p. p.0.len ≤ vec_len p.0.memory) }
     ensures failed { IfErr result (λ e. e ≡ no_memory) }
     ensures mailed { IfOk result (λ p. Mailed options.now.dot options.now.width options.now.depths text.now p.0 p.1) }
 {
-    let mut size = first_size(text);
-    for _ in 0..64 {
-        let Some(bytes) = size else {
-            return Err(Trouble::Memory);
-        };
-        let memory = vec![in rt.alloc(); 0u8; bytes]?;
-        let composed = compose(memory, options, text);
-        let len = composed.len;
-        let report = MailReport::new(
-            composed.outcome,
-            &composed.memory.as_slice()[0..len],
-            options.dot,
-        );
+    let mut size = first_size(text).ok_or(Trouble::Memory)?;
+    loop {
+        let memory = vec![in rt.alloc(); 0u8; size]?;
+        let composed = compose_into(memory, options, text);
+        let wire = composed.wire.bytes();
+        let report = MailReport::new(composed.outcome, wire, options.dot);
         if !report.lacks_memory() {
             return Ok((composed, report));
         }
-        size = bytes.checked_mul(2);
+        size = size.checked_mul(2).ok_or(Trouble::Memory)?;
     }
-    Err(Trouble::Memory)
 }
 
 pub fn run(rt: &HostRuntime, options: &ComposeOptions) -> Result<(), Trouble> {
-    let text = files::read_all(rt, &options.text)?;
+    let text = files::read_all(rt, options.files.input.as_deref())?;
     let (composed, report) = compose_whole(rt, options, text.as_slice())?;
     if !report.is_whole() {
         eprint!(rt; "{report}")?;
         return Err(Trouble::Mail);
     }
-    let len = composed.len;
-    let wire = &composed.memory.as_slice()[0..len];
-    match &options.wire {
-        Some(name) => {
-            files::write_all(rt, name.as_str(), wire)?;
-            if name.as_str() == "-" {
-                eprint!(rt; "{report}")?;
-            } else {
-                print!(rt; "{report}")?;
-            }
-        }
-        None => {
-            files::write_all(rt, "-", wire)?;
-            eprint!(rt; "{report}")?;
-        }
-    }
-    Ok(())
+    let name = options.files.wire.as_deref().or(Some("-"));
+    files::write_out(rt, name, composed.wire.bytes(), &report)
 }

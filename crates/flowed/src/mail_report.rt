@@ -1,14 +1,12 @@
 // What is reported of a mail that was composed.
 ghost use Rattle.std.specs.Prelude.{◌≡◌, not, length, is_some};
 ghost use Rattle.line_ends.specs.LineEnds.{widest};
-ghost use Rattle.flowed.specs.Mail.{unfinished, memory_full, for_memory};
+ghost use Rattle.flowed.specs.Mail.{unfinished, memory_full, fault_of, for_memory};
 
-use crate::words::InWords;
 use compose_text::composed::Outcome;
 use fault::cause::Cause;
 use fault::fault::Fault;
 use fault::layer::Layer;
-use fault::layer_fault::LayerFault;
 use fault::refusal::Refusal;
 use line_ends::count::widest_line;
 use std::fmt;
@@ -22,6 +20,35 @@ pub enum Unfinished {
     Finish(Fault),
 }
 
+impl Unfinished {
+    fn of(outcome: Outcome) -> Option<Unfinished>
+        ensures { result ≡ unfinished outcome }
+    {
+        match (outcome.handed.refused, outcome.finish) {
+            (Some((line, f)), _) => Some(Unfinished::Line(line, f.fault())),
+            (None, Some(Err(f))) => Some(Unfinished::Finish(f.fault())),
+            _ => None,
+        }
+    }
+
+    // Whether memory alone is wanting.
+    fn is_memory_full(&self) -> bool
+        ensures { result ≡ memory_full (fault_of self.now) }
+    {
+        let (Unfinished::Line(_, fault) | Unfinished::Finish(fault)) = *self;
+        fault.cause == Cause::Full && fault.layer == Layer::End
+    }
+}
+
+impl fmt::Display for Unfinished {
+    fn fmt<W: fmt::Write>(&self, f: &mut fmt::Formatter<W>) -> fmt::Result {
+        match self {
+            Unfinished::Line(line, fault) => write!(f, "line {line}: {fault}"),
+            Unfinished::Finish(fault) => write!(f, "the finish: {fault}"),
+        }
+    }
+}
+
 #[derive(Clone, Copy)]
 pub struct MailReport {
     paragraphs: usize,
@@ -30,27 +57,6 @@ pub struct MailReport {
     widest: usize,
     dot: bool,
     unfinished: Option<Unfinished>,
-}
-
-fn why_unfinished(outcome: Outcome) -> Option<Unfinished>
-    ensures { result ≡ unfinished outcome }
-{
-    match outcome.handed.refused {
-        Some((line, f)) => Some(Unfinished::Line(line, f.fault())),
-        None => match outcome.finish {
-            Some(Err(f)) => Some(Unfinished::Finish(f.fault())),
-            _ => None,
-        },
-    }
-}
-
-fn is_memory_full(fault: Fault) -> bool
-    ensures { result ≡ memory_full fault }
-{
-    match (fault.cause, fault.layer) {
-        (Cause::Full, Layer::End) => true,
-        _ => false,
-    }
 }
 
 impl MailReport {
@@ -68,7 +74,7 @@ impl MailReport {
             bytes: wire.len(),
             widest: widest_line(wire),
             dot,
-            unfinished: why_unfinished(outcome),
+            unfinished: Unfinished::of(outcome),
         }
     }
 
@@ -82,54 +88,32 @@ impl MailReport {
     pub fn lacks_memory(&self) -> bool
         ensures { result ≡ for_memory self.now.unfinished }
     {
-        match self.unfinished {
-            Some(Unfinished::Line(_, f)) => is_memory_full(f),
-            Some(Unfinished::Finish(f)) => is_memory_full(f),
-            None => false,
-        }
+        self.unfinished.is_some_and(|why| why.is_memory_full())
     }
 }
 
 impl fmt::Display for MailReport {
     fn fmt<W: fmt::Write>(&self, f: &mut fmt::Formatter<W>) -> fmt::Result {
-        let paragraphs = self.paragraphs;
-        let lines = self.lines;
-        let bytes = self.bytes;
-        let widest = self.widest;
-        match self.unfinished {
-            None => {
-                writeln!(f, "paragraphs         {paragraphs}")?;
-                writeln!(f, "wire lines         {lines}")?;
-                if self.dot {
-                    writeln!(f, "bytes on the wire  {bytes}, end mark included")?;
-                } else {
-                    writeln!(f, "bytes on the wire  {bytes}")?;
-                }
-                writeln!(f, "widest line        {widest}")
-            }
-            Some(Unfinished::Line(line, fault)) => {
-                let why = InWords(fault);
-                writeln!(f, "refused            line {line}: {why}")?;
-                before(f, paragraphs, lines, bytes)
-            }
-            Some(Unfinished::Finish(fault)) => {
-                let why = InWords(fault);
-                writeln!(f, "refused            the finish: {why}")?;
-                before(f, paragraphs, lines, bytes)
-            }
+        let MailReport {
+            paragraphs,
+            lines,
+            bytes,
+            widest,
+            dot,
+            unfinished,
+        } = *self;
+        if let Some(why) = unfinished {
+            writeln!(f, "refused            {why}")?;
+            // the bytes may hold lines of the refused paragraph
+            return writeln!(
+                f,
+                "gone down before   {paragraphs} paragraphs in {lines} wire lines; {bytes} bytes in all"
+            );
         }
+        let end_mark = if dot { ", end mark included" } else { "" };
+        writeln!(f, "paragraphs         {paragraphs}")?;
+        writeln!(f, "wire lines         {lines}")?;
+        writeln!(f, "bytes on the wire  {bytes}{end_mark}")?;
+        writeln!(f, "widest line        {widest}")
     }
-}
-
-// What had gone down when a line or the finish was refused; the bytes may hold lines of the refused paragraph.
-fn before<W: fmt::Write>(
-    f: &mut fmt::Formatter<W>,
-    paragraphs: usize,
-    lines: usize,
-    bytes: usize,
-) -> fmt::Result {
-    writeln!(
-        f,
-        "gone down before   {paragraphs} paragraphs in {lines} wire lines; {bytes} bytes in all"
-    )
 }

@@ -2,15 +2,18 @@
 #![tactic(auto)]
 
 mod carry_body;
+mod carry_options;
 mod compose_mail;
 mod compose_options;
+mod file_names;
 mod files;
 mod help;
 mod mail_report;
+mod number_option;
 mod options;
 mod report;
 mod trouble;
-mod words;
+mod usage;
 
 use help::HELP;
 use options::Command;

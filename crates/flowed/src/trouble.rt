@@ -13,12 +13,15 @@ pub enum Trouble {
     File(String, io::Error),
     Io(io::Error),
     Memory,
-    // the body was refused, as the report says; whether its line ends were turned into CRLF
-    Body(bool),
+    // the body was refused, as the report says
+    Body,
+    // the same, and its line ends were left as they were
+    BodyWithoutLf,
     // the mail was refused, as the report says
     Mail,
 }
 
+// By hand, since a contract says which trouble a `?` tells.
 impl From<AllocError> for Trouble {
     ghost from_gives = { λ e r. r ≡ no_memory };
 
@@ -51,13 +54,11 @@ impl fmt::Display for Trouble {
             Trouble::Io(error) => write!(f, "{error}"),
             Trouble::Memory => write!(f, "no memory is left"),
             Trouble::Mail => write!(f, "the mail was not composed; nothing was written"),
-            Trouble::Body(true) => write!(f, "the body was not carried"),
-            Trouble::Body(false) => {
-                write!(
-                    f,
-                    "the body was not carried (--lf turns LF line ends into CRLF first)"
-                )
-            }
+            Trouble::Body => write!(f, "the body was not carried"),
+            Trouble::BodyWithoutLf => write!(
+                f,
+                "the body was not carried (--lf turns LF line ends into CRLF first)"
+            ),
         }
     }
 }

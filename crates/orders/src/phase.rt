@@ -1,9 +1,12 @@
 // Whether a taker goes on, was closed, or was shut, and by which fault.
 ghost use Rattle.std.specs.Prelude.{◌≡◌};
-ghost use Rattle.orders.specs.declared.phase.Phase.TheVariants.{Shut as shut_by};
-ghost use Rattle.orders.specs.Phases.{running, stands};
+ghost use Rattle.fault.specs.Answers.{told, arisen};
+ghost use Rattle.fault.specs.Faults.{own};
+ghost use Rattle.orders.specs.Phases.{running, stands, settled, refused};
 
 use fault::cause::Cause;
+use fault::layer::Layer;
+use fault::refusal::Arises;
 
 #[derive(Clone, Copy, Debug, PartialEq, Eq)]
 pub enum Phase<F> {
@@ -36,12 +39,35 @@ impl<F: Copy> Phase<F> {
         }
     }
 
-    // Shut by a fault, which is then answered.
-    pub fn shut(&mut self, f: F) -> F
-        ensures answered { result ≡ f }
-        ensures left { self.new ≡ shut_by f }
+    // An answer from below, which shuts if it is a refusal.
+    pub fn settle<T>(&mut self, answer: Result<T, F>) -> Result<T, F>
+        ensures answered { result ≡ answer }
+        ensures left { self.new ≡ settled answer self.old }
     {
-        *self = Phase::Shut(f);
+        if let Err(f) = &answer {
+            *self = Phase::Shut(*f);
+        }
+        answer
+    }
+}
+
+impl<F: Arises + Copy> Phase<F> {
+    // Refused once it was closed or shut.
+    pub fn going(&self, layer: Layer, place: u32) -> Result<(), F>
+        ensures { told F.Refusal.means result ≡ arisen layer place (running self.now) }
+    {
+        self.running().map_err(|cause| F::own(cause, layer, place))
+    }
+
+    // Refuses an order for a cause of the layer's own, which shuts, unless it leaves all as it was.
+    pub fn refuse(&mut self, cause: Cause, layer: Layer, place: u32) -> F
+        ensures fault { F.Refusal.means result ≡ own cause layer place }
+        ensures left { self.new ≡ refused cause result self.old }
+    {
+        let f = F::own(cause, layer, place);
+        if !cause.leaves() {
+            *self = Phase::Shut(f);
+        }
         f
     }
 }

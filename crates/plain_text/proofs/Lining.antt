@@ -1,7 +1,9 @@
 -- A text cut into its lines.
-use Rattle.std.proofs.Common.{◌≡◌, ℕ, Bool, true, false, cond, ◌&&◌, eqb, List, [], ◌∷◌, ◌++◌, map, sym, refl, ap, ◌∙◌, subst, inl, inr, append_assoc, arith}
+use Rattle.std.proofs.Common.{◌≡◌, ℕ, Bool, true, false, cond, ◌&&◌, eqb, List, [], ◌∷◌, ◌++◌, map, Bor, Some, None, Option, sym, refl, ap, ◌∙◌, subst, inl, inr, append_assoc}
+use Rattle.std.specs.Option.{MatchOption, unwrap_or}
+use Rattle.std.proofs.Math.Bool.{and-false}
 use Rattle.std.proofs.ByRecursion.{All-push}
-use Rattle.std.proofs.lemmas.Bool.{cond-false, cases_Bool, eqb-true}
+use Rattle.std.proofs.lemmas.Bool.{cond-false, cases_Bool, eqb-true, ne_eqb}
 use Rattle.folding.specs.Text.{Text}
 use Rattle.plain_text.specs.Lines.{line_feed, carriage_return, onto, cut, is_end, line_text, text_lines, NoFeed, ends_in, Lines, none, unended, by_crlf, by_lf, CutSo}
 
@@ -19,15 +21,17 @@ cut_last b (d ∷ c) h = ap (λ (x : Bool). cond x ((b ∷ []) ∷ cut (d ∷ c)
 text_byte : (b : ℕ) (t : Text) → is_end (b ∷ t) ≡ false → line_text (b ∷ t) ≡ b ∷ line_text t
 text_byte b t h = cond-false (is_end (b ∷ t)) [] (b ∷ line_text t) h
 
-pub text_last : (c : Text) → NoFeed c → line_text c ≡ c
-text_last [] h = refl
-text_last (b ∷ []) h = text_byte b [] h.0
-text_last (b ∷ d ∷ []) h = text_byte b (d ∷ []) (ap (λ (x : Bool). eqb b carriage_return && x) h.1.0 ∙ and_no (eqb b carriage_return)) ∙ ap (λ (l : Text). b ∷ l) (text_last (d ∷ []) h.1)
-  where
-    and_no : (x : Bool) → (x && false) ≡ false
-    and_no true = refl
-    and_no false = refl
-text_last (b ∷ d ∷ e ∷ c) h = text_byte b (d ∷ e ∷ c) refl ∙ ap (λ (l : Text). b ∷ l) (text_last (d ∷ e ∷ c) h.1)
+pub text_whole : (c : Text) → ends_in line_feed c ≡ false → line_text c ≡ c
+text_whole [] h = refl
+text_whole (b ∷ []) h = text_byte b [] h
+text_whole (b ∷ d ∷ []) h = text_byte b (d ∷ []) (ap (λ (x : Bool). eqb b carriage_return && x) h ∙ and-false (eqb b carriage_return)) ∙ ap (λ (l : Text). b ∷ l) (text_whole (d ∷ []) h)
+text_whole (b ∷ d ∷ e ∷ c) h = text_byte b (d ∷ e ∷ c) refl ∙ ap (λ (l : Text). b ∷ l) (text_whole (d ∷ e ∷ c) h)
+
+-- a text that is nothing before the byte x does not end in it
+pub not_ended : (x : ℕ) (c : Text) → ((front : Text) → c ≡ front ++ x ∷ [] → ⊥) → ends_in x c ≡ false
+not_ended x [] h = refl
+not_ended x (b ∷ []) h = ne_eqb b x (λ e. h [] (ap (λ (v : ℕ). v ∷ []) e))
+not_ended x (b ∷ d ∷ c) h = not_ended x (d ∷ c) (λ front e. h (b ∷ front) (ap (λ (l : Text). b ∷ l) e))
 
 pub text_lf : (c : Text) → ends_in carriage_return c ≡ false → line_text (c ++ line_feed ∷ []) ≡ c
 text_lf [] h = refl
@@ -41,6 +45,11 @@ text_crlf (b ∷ []) = text_byte b (carriage_return ∷ line_feed ∷ []) refl
 text_crlf (b ∷ d ∷ []) = text_byte b (d ∷ carriage_return ∷ line_feed ∷ []) refl ∙ ap (λ (l : Text). b ∷ l) (text_crlf (d ∷ []))
 text_crlf (b ∷ d ∷ e ∷ c) = text_byte b (d ∷ e ∷ c ++ carriage_return ∷ line_feed ∷ []) refl ∙ ap (λ (l : Text). b ∷ l) (text_crlf (d ∷ e ∷ c))
 
+-- what is left of a line where its LF goes, and then its CR
+pub without_cr : (l : Text) (x : Bor Text) (r : Option (Bor Text)) → l ≡ x.now ++ line_feed ∷ [] → MatchOption r ((front : Text) → x.now ≡ front ++ carriage_return ∷ [] → ⊥) (λ y. x.now ≡ y.now ++ carriage_return ∷ []) → (unwrap_or r x).now ≡ line_text l
+without_cr l x None e h = sym (ap line_text e ∙ text_lf x.now (not_ended carriage_return x.now h))
+without_cr l x (Some y) e h = sym (ap line_text (e ∙ ap (λ (t : Text). t ++ line_feed ∷ []) h ∙ append_assoc y.now (carriage_return ∷ []) (line_feed ∷ [])) ∙ text_crlf y.now)
+
 pub lines_lf : (c u : Text) → NoFeed c → ends_in carriage_return c ≡ false → text_lines (c ++ line_feed ∷ u) ≡ c ∷ text_lines u
 lines_lf c u h e = ap (map line_text) (cut_feed c u h) ∙ ap (λ (l : Text). l ∷ text_lines u) (text_lf c e)
 
@@ -52,9 +61,15 @@ lines_crlf c u h =
     ∙ ap (λ (l : Text). line_text l ∷ text_lines u) (joins [])
     ∙ ap (λ (l : Text). l ∷ text_lines u) (text_crlf c)
 
+-- the end of a text in which there is no LF
+no_feed_ends : (c : Text) → NoFeed c → ends_in line_feed c ≡ false
+no_feed_ends [] h = refl
+no_feed_ends (b ∷ []) h = h.0
+no_feed_ends (b ∷ d ∷ c) h = no_feed_ends (d ∷ c) h.1
+
 pub lines_last : (c : Text) → (c ≡ [] → ⊥) → NoFeed c → text_lines c ≡ c ∷ []
 lines_last [] ne h = absurd (ne refl)
-lines_last (b ∷ c) ne h = ap (map line_text) (cut_last b c h) ∙ ap (λ (l : Text). l ∷ []) (text_last (b ∷ c) h)
+lines_last (b ∷ c) ne h = ap (map line_text) (cut_last b c h) ∙ ap (λ (l : Text). l ∷ []) (text_whole (b ∷ c) (no_feed_ends (b ∷ c) h))
 
 pub only_lines : {t : Text} {ls : List Text} → Lines t ls → ls ≡ text_lines t
 only_lines none = refl
@@ -71,7 +86,7 @@ grown_lf b h [] t u ls e k x r = elim (cases_Bool (eqb b carriage_return)) [
 grown_lf b h (d ∷ c) t u ls e k x r = ((b ∷ d ∷ c) ∷ ls, by_lf {u = u} (ap (λ (l : Text). b ∷ l) e) (h, k) x r)
 
 not_empty : (b : ℕ) (t : Text) → b ∷ t ≡ [] → ⊥
-not_empty b t e = let z : ◌≡◌ {A = ℕ} 0 1 = cc in omega arith
+not_empty b t e = cc
 
 grown : (b : ℕ) → eqb b line_feed ≡ false → {t : Text} {ls : List Text} → Lines t ls → (ms : List Text) × Lines (b ∷ t) ms
 grown b h none = ((b ∷ []) ∷ [], unended (not_empty b []) (h, tt))

@@ -6,6 +6,7 @@ use Rattle.taker.specs.Mail.{Paragraph}
 use Rattle.folding.specs.Text.{Text}
 use Rattle.folding.specs.WireLine.{quote_mark}
 use Rattle.folding.specs.Reading.{Line, read_line}
+use Rattle.plain_text.specs.declared.line.Line as line
 use Rattle.plain_text.specs.declared.line.Depths.{Depths}
 use Rattle.plain_text.specs.declared.line.Depths.TheVariants.{Each, Marks}
 use Rattle.plain_text.specs.Lines.{text_lines}
@@ -22,6 +23,10 @@ of_line l = record { depth = min l.depth most; text = l.content }
 abbrev pub paragraph_of : Depths → Text → Paragraph
 paragraph_of (Each d) l = record { depth = d; text = l }
 paragraph_of Marks l = of_line (read_line l)
+
+-- a line as a paragraph
+abbrev pub paragraph : line.Line → Paragraph
+paragraph l = record { depth = l.depth; text = l.text.now }
 
 abbrev pub paragraphs_of : Depths → Text → List Paragraph
 paragraphs_of ds t = map (paragraph_of ds) (text_lines t)

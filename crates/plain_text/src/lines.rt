@@ -5,7 +5,8 @@ ghost use Rattle.plain_text.specs.Paragraphs.{paragraphs_of};
 ghost use Rattle.plain_text.specs.Grows.{GrowsSome, GrowsBy};
 ghost use Rattle.plain_text.specs.Handing.{HandedAll, by_fault};
 
-use crate::line::{Depths, Line, line_at};
+use crate::cut::Lines;
+use crate::line::Depths;
 use crate::paragraph::hand_paragraph;
 use taker::paragraph_taker::ParagraphTaker;
 
@@ -31,17 +32,10 @@ pub fn hand_lines<T: ParagraphTaker>(
     ensures cut { CutSo text.now }
     ensures kept { T.ParagraphTaker.keeps taker.old taker.new }
 {
-    let mut at: usize = 0;
     let mut paragraphs: usize = 0;
     let mut lines: usize = 0;
-    while at < text.len() {
-        let Line {
-            depth,
-            start,
-            end,
-            next,
-        } = line_at(text, at, depths);
-        match hand_paragraph(taker, depth, &text[start..end]) {
+    for line in (Lines { text, depths }) {
+        match hand_paragraph(taker, line.depth, line.text) {
             Ok(n) => {
                 paragraphs += 1;
                 lines = lines.saturating_add(n as usize);
@@ -54,7 +48,6 @@ pub fn hand_lines<T: ParagraphTaker>(
                 };
             }
         }
-        at = next;
     }
     Handed {
         paragraphs,

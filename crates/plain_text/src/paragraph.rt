@@ -18,10 +18,7 @@ pub fn hand_paragraph<T: ParagraphTaker>(
     ensures whole { GrowsBy (T.ParagraphTaker.means taker.old) (T.ParagraphTaker.means taker.new) (HandedOne (record { depth = depth; text = text.now }) (told T.TakerFault.Refusal.means result)) }
     ensures kept { T.ParagraphTaker.keeps taker.old taker.new }
 {
-    let open = match ticket::open(taker, depth) {
-        Ok(open) => open,
-        Err(f) => return Err(f),
-    };
+    let open = ticket::open(taker, depth)?;
     let (_, refused) = feed(taker, text);
     match refused {
         None => ticket::end(taker, open),

@@ -1,5 +1,5 @@
 -- Deliveries, one after the other.
-use Rattle.std.proofs.Common.{◌≡◌, ℕ, List, [], ◌++◌, Some, None, Ok, Err, Option, Result, sym, refl, ap, ◌∙◌, arith}
+use Rattle.std.proofs.Common.{◌≡◌, ℕ, List, ◌++◌, Some, None, Ok, Err, Option, Result, sym, refl, ap, ◌∙◌}
 use Rattle.fault.specs.declared.fault.Fault.{Fault}
 use Rattle.fault.specs.Answers.{answer, raised}
 use Rattle.orders.specs.Lists.{sent, sent_fault}
@@ -15,7 +15,7 @@ use Rattle.reader.proofs.Handing.{hand_append, hand_texts}
 
 raised_some : (x : Option Fault) (f : Fault) → raised x ≡ Some f → (g : Fault) × (x ≡ Some g)
 raised_some (Some g) f e = (g, refl)
-raised_some None f e = let z : ◌≡◌ {A = ℕ} 0 1 = cc in absurd (omega arith)
+raised_some None f e = cc
 
 module _ {E : Type 0} (m : Taker E) (k : ℕ) (n : Taker E) (l : ℕ) where
   -- as text orders
@@ -54,10 +54,7 @@ module _ {E : Type 0} (m : Taker E) (k : ℕ) (n : Taker E) (l : ℕ) where
         number = p.number ∙ sym (ap (λ (x : Handing E). x.number) h);
       }
 
-module _ {T E : Type 0} (means : T → Taker E) (keeps : T → T → Type 0) (same : (a : T) → keeps a a) (chained : (a b c : T) → keeps a b → keeps b c → keeps a c) where
-  pub delivered_none : (a : Delivery T) → Delivered means keeps a a [] (Ok tt)
-  delivered_none a = record { handed = record { answered = refl; taker = refl; number = refl }; kept = same a.taker }
-
+module _ {T E : Type 0} (means : T → Taker E) (keeps : T → T → Type 0) (chained : (a b c : T) → keeps a b → keeps b c → keeps a c) where
   pub delivered_more : (a b c : Delivery T) (es fs : List Event) (r : Result (Unit {0}) Fault) → Delivered means keeps a b es (Ok tt) → Delivered means keeps b c fs r → Delivered means keeps a c (es ++ fs) r
   delivered_more a b c es fs r p q = record {
     handed = hands_more (means a.taker) a.number (means b.taker) b.number (means c.taker) c.number es fs r p.handed q.handed;

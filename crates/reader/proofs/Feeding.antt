@@ -1,5 +1,5 @@
 -- A chunk's bytes, by what is still to come.
-use Rattle.std.proofs.Common.{◌≡◌, ℕ, ◌+◌, List, ◌∷◌, Some, None, Option, sym, refl, ap, ◌∙◌, arith}
+use Rattle.std.proofs.Common.{◌≡◌, ℕ, ◌+◌, List, ◌∷◌, Some, None, Option, sym, ap, ◌∙◌, arith}
 use Rattle.fault.specs.declared.fault.Fault.{Fault}
 use Rattle.reader.specs.Reading.{Reading, Read, byte, then_read, bytes, counted_by, accepted}
 
@@ -8,9 +8,6 @@ pub record Rest {E : Type 0} (r n : Reading E) (i : ℕ) (all rest : List ℕ) :
   pub taken : i + accepted n rest ≡ accepted r all
   pub fault : (bytes n rest).fault ≡ (bytes r all).fault
   pub left : (bytes n rest).left ≡ (bytes r all).left
-
-pub rest_all : {E : Type 0} (r : Reading E) (all : List ℕ) → Rest r r 0 all all
-rest_all r all = record { taken = omega arith; fault = refl; left = refl }
 
 module _ {E : Type 0} (r n : Reading E) (i : ℕ) (all : List ℕ) (b : ℕ) (rest : List ℕ) (h : Rest r n i all (b ∷ rest)) where
   abbrev n' : Reading E

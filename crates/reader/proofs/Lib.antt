@@ -2,5 +2,4 @@ pub mod Handing
 mod Delivering
 mod Settling
 mod Feeding
-mod Finishing
 pub mod Whole

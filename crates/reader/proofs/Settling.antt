@@ -1,19 +1,22 @@
--- A reader that goes on: what its bytes and its finish come to, in every phase.
-use Rattle.std.proofs.Common.{◌≡◌, ℕ, [], Some, None, Ok, Err, Option, Result, sym, refl, ap, ◌∙◌, arith}
+-- A wire byte at a reader that goes on: it still goes on, or is shut.
+use Rattle.std.proofs.Common.{◌≡◌, ℕ, [], Some, None, Ok, Err, Option, Result, sym, refl, ap, ◌∙◌}
 use Rattle.fault.specs.declared.fault.Fault.{Fault}
+use Rattle.fault.specs.declared.layer.Layer.{Layer}
+use Rattle.fault.specs.Answers.{told, answer, arisen}
 use Rattle.orders.specs.declared.phase.Phase.{Phase}
 use Rattle.orders.specs.declared.phase.Phase.TheVariants.{Running, Closed, Shut}
+use Rattle.orders.specs.Phases.{phased, running, settled as settles}
+use Rattle.orders.proofs.Answering.{answer_err, answer_ok}
 use Rattle.undo.specs.Undoing.{fed}
 use Rattle.reading.specs.Machine.{State, Step, hands, refuses, step}
 use Rattle.reader.specs.Handing.{hand}
-use Rattle.reader.specs.Reading.{Reading, Read, with_taker, with_phase, with_undo, phase_by, handed_on, stepped, undone_byte, wire_byte, settled, unless_over}
-use Rattle.reader.specs.Readers.{over_fault}
+use Rattle.reader.specs.Reading.{Reading, with_taker, with_phase, with_undo, phase_by, handed_on, stepped, undone_byte, wire_byte, settled, unless_over, byte}
 
--- not over, it is running
-pub still_running : (p : Phase Fault) (n : ℕ) → None ≡ over_fault p n → p ≡ Running
-still_running Running n e = refl
-still_running Closed n e = let z : ◌≡◌ {A = ℕ} 0 1 = cc in absurd (omega arith)
-still_running (Shut f) n e = let z : ◌≡◌ {A = ℕ} 0 1 = cc in absurd (omega arith)
+-- not refused for its phase, it is running
+pub goes_on : {F : Type 0} (means : F → Fault) (p : Phase F) (l : Layer) (n : ℕ) → Ok (tt {0}) ≡ arisen l n (running p) → phased means p ≡ Running
+goes_on means Running l n e = refl
+goes_on means Closed l n e = cc
+goes_on means (Shut f) l n e = cc
 
 module _ {E : Type 0} where
   -- a byte leaves the phase to what it is settled to
@@ -30,30 +33,20 @@ module _ {E : Type 0} where
   undone_phase r (Ok None) = refl
   undone_phase r (Err f) = refl
 
-  pub wire_phase : (r : Reading E) (b : ℕ) → (wire_byte r b).left.phase ≡ r.phase
+  wire_phase : (r : Reading E) (b : ℕ) → (wire_byte r b).left.phase ≡ r.phase
   wire_phase r b = undone_phase (with_undo r (fed r.undo b)) (r.undo.takes [] b)
 
-  -- over, it stays as it was
-  pub over_left : (r : Reading E) (x : Read E) (f : Fault) → Some f ≡ over_fault r.phase r.place → (unless_over r.phase r x ≡ record { left = r; fault = Some f })
-  over_left r x f e = go r.phase e
-    where
-      go : (p : Phase Fault) → Some f ≡ over_fault p r.place → unless_over p r x ≡ record { left = r; fault = Some f }
-      go Running q = let z : ◌≡◌ {A = ℕ} 0 1 = cc in absurd (omega arith)
-      go Closed q = ap (λ (o : Option Fault). record { left = r; fault = o }) (sym q)
-      go (Shut g) q = ap (λ (o : Option Fault). record { left = r; fault = o }) (sym q)
+  module _ (r : Reading E) (b : ℕ) (goes : r.phase ≡ Running) where
+    is_settled : (v : Option Fault) → (wire_byte r b).fault ≡ v → (byte r b).left ≡ with_phase (wire_byte r b).left (phase_by v Running)
+    is_settled v e = cc (ap (λ (q : Phase Fault). unless_over q r (settled Running (wire_byte r b))) goes)
 
-  -- what came of a try, once it is settled: n is what the try left, and o the answer's fault
-  pub record Settled (r : Reading E) (n : Reading E) (o : Option Fault) (x : Read E) (p : Phase Fault) : Type 0 where
-    pub fault : (unless_over r.phase r (settled p x)).fault ≡ o
-    pub left : with_phase n (phase_by o p) ≡ (unless_over r.phase r (settled p x)).left
+    pub byte_accepted : Ok (tt {0}) ≡ answer (tt {0}) (wire_byte r b).fault → (wire_byte r b).left ≡ (byte r b).left
+    byte_accepted e = sym (is_settled None (answer_ok tt tt _ e) ∙ ap (with_phase (wire_byte r b).left) (sym (wire_phase r b ∙ goes)))
 
-  pub settles : (r n : Reading E) (o : Option Fault) (x : Read E) (p : Phase Fault) → r.phase ≡ Running → x.fault ≡ o → n ≡ x.left → Settled r n o x p
-  settles r n o x p run f e =
-      let at : unless_over r.phase r (settled p x) ≡ settled p x = ap (λ (q : Phase Fault). unless_over q r (settled p x)) run in
-      record {
-        fault = ap (λ (y : Read E). y.fault) at ∙ f;
-        left =
-            ap (λ (m : Reading E). with_phase m (phase_by o p)) e
-            ∙ ap (λ (v : Option Fault). with_phase x.left (phase_by v p)) (sym f)
-            ∙ sym (ap (λ (y : Read E). y.left) at);
-      }
+    pub byte_refused : (f : Fault) → Err f ≡ answer (tt {0}) (wire_byte r b).fault → with_phase (wire_byte r b).left (Shut f) ≡ (byte r b).left
+    byte_refused f e = sym (is_settled (Some f) (answer_err tt f _ e))
+
+    -- what the byte came to settles the phase
+    pub byte_settled : {F : Type 0} (means : F → Fault) (p : Phase F) (a : Result (Unit {0}) F) → phased means p ≡ (wire_byte r b).left.phase → told means a ≡ answer (tt {0}) (wire_byte r b).fault → with_phase (wire_byte r b).left (phased means (settles a p)) ≡ (byte r b).left
+    byte_settled means p (Ok x) q e = ap (with_phase (wire_byte r b).left) q ∙ byte_accepted e
+    byte_settled means p (Err f) q e = byte_refused (means f) e

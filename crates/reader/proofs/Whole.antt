@@ -25,7 +25,7 @@ counted_none : (p : ℕ) → p ≤ most → p ≡ min (p + 0) most
 counted_none p h = omega arith
 
 not_none : (f : Fault) (A : Type 0) → ◌≡◌ {A = Option Fault} (Some f) None → A
-not_none f A e = let z : ◌≡◌ {A = ℕ} 0 1 = cc in absurd (omega arith)
+not_none f A e = cc
 
 module _ {E : Type 0} where
   -- x is what the first byte comes to, and bs are the others

@@ -1,7 +1,7 @@
 -- The events of a plan.
 use Rattle.std.specs.Prelude.{ℕ, Bool, true, false, List, [], ◌∷◌, ◌++◌, take, Some, None, Option}
 use Rattle.reading.specs.Events.{Event, opened, ended, texts}
-use Rattle.reader.specs.declared.plan.Text.{Text}
+use Rattle.reader.specs.declared.text.Text.{Text}
 use Rattle.reader.specs.declared.plan.Plan.{Plan}
 
 abbrev pub end_if : Bool → List Event

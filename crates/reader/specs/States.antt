@@ -5,7 +5,7 @@ use Rattle.reading.specs.Events.{Event, texts}
 use Rattle.reading.specs.Held.{begins_at, signs_at}
 use Rattle.reading.specs.Machine.{State, in_marks, in_content, behind_cr, Step, hands, refuses}
 use Rattle.reading.specs.Machine.{Content as ReadingContent, held, passed}
-use Rattle.reader.specs.declared.plan.Text.{Text}
+use Rattle.reader.specs.declared.text.Text.{Text}
 use Rattle.reader.specs.declared.plan.Plan.{Plan}
 use Rattle.reader.specs.declared.line.Content.{Content}
 use Rattle.reader.specs.declared.line.Content.TheVariants.{Held, Passed}

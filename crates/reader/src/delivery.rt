@@ -33,19 +33,14 @@ impl<T: ParagraphTaker> Delivery<T> {
         ensures { Delivered T.ParagraphTaker.means T.ParagraphTaker.keeps self.old self.new (texts bytes.now) (told layer_fault result) }
     {
         let (_, fault) = feed(&mut self.taker, bytes);
-        let answer = match fault {
-            None => Ok(()),
-            Some(f) => Err(f),
-        };
-        from_below(answer)?;
+        from_below(fault.map_or(Ok(()), Err))?;
         Ok(())
     }
 
     fn end(&mut self) -> Result<(), LayerFault>
         ensures { Delivered T.ParagraphTaker.means T.ParagraphTaker.keeps self.old self.new (ended ∷ []) (told layer_fault result) }
     {
-        let number = self.number;
-        from_below(self.taker.end(number))?;
+        from_below(self.taker.end(self.number))?;
         Ok(())
     }
 
@@ -53,19 +48,16 @@ impl<T: ParagraphTaker> Delivery<T> {
     pub(crate) fn end_if(&mut self, due: bool) -> Result<(), LayerFault>
         ensures { Delivered T.ParagraphTaker.means T.ParagraphTaker.keeps self.old self.new (end_if due) (told layer_fault result) }
     {
-        if due {
-            self.end()?;
-        }
-        Ok(())
+        if due { self.end() } else { Ok(()) }
     }
 
     fn open_if(&mut self, depth: Option<u32>) -> Result<(), LayerFault>
         ensures { Delivered T.ParagraphTaker.means T.ParagraphTaker.keeps self.old self.new (open_if depth) (told layer_fault result) }
     {
-        if let Some(d) = depth {
-            self.open(d)?;
+        match depth {
+            Some(d) => self.open(d),
+            None => Ok(()),
         }
-        Ok(())
     }
 
     // All of a plan, to the first refusal.
@@ -74,7 +66,7 @@ impl<T: ParagraphTaker> Delivery<T> {
     {
         self.end_if(plan.end_first)?;
         self.open_if(plan.open)?;
-        self.text(&plan.text.bytes[..plan.text.len])?;
+        self.text(plan.text.as_slice())?;
         self.end_if(plan.end)
     }
 
@@ -85,7 +77,6 @@ impl<T: ParagraphTaker> Delivery<T> {
         ensures number { self.new.number ≡ self.old.number }
         ensures kept { T.ParagraphTaker.keeps self.old.taker self.new.taker }
     {
-        let n = from_below(self.taker.finish())?;
-        Ok(n)
+        Ok(from_below(self.taker.finish())?)
     }
 }

@@ -6,3 +6,4 @@ mod line;
 mod plan;
 pub mod reader;
 mod sign;
+mod text;

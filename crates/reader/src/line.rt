@@ -1,7 +1,7 @@
 // Where the reader stands in a line.
 ghost use Rattle.std.specs.Prelude.{◌≤◌};
 
-use crate::plan::Text;
+use crate::text::Text;
 
 mod ends;
 mod finish;
@@ -19,7 +19,7 @@ pub struct Held {
 #[derive(Clone, Copy)]
 pub enum Content {
     Held(Held),
-    // no such beginning: it was handed on
+    // no such beginning: it was handed on, and only whether it ends in a space is of use
     Passed { ends_in_space: bool },
 }
 
@@ -27,7 +27,7 @@ pub enum Content {
 #[derive(Clone, Copy)]
 pub struct Line {
     depth: u32,
-    // whether its paragraph was open before the line
+    // whether its paragraph was open before the line, at the line's own depth, so that there is no value to it
     continued: bool,
     content: Content,
 }

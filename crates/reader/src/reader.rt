@@ -1,16 +1,19 @@
 // The reader: wire bytes go through an undoing stage, and come out as paragraphs at a taker.
 ghost use Rattle.std.specs.Prelude.{◌≡◌};
-ghost use Rattle.fault.specs.Answers.{via};
+ghost use Rattle.fault.specs.Answers.{told, arisen, via};
+ghost use Rattle.fault.specs.declared.layer.Layer.TheVariants.{Reader as reader_layer};
+ghost use Rattle.fault.specs.Faults.{own as arises};
 ghost use Rattle.fault.specs.Kinds.{layer_fault};
-ghost use Rattle.orders.specs.Phases.{phased, stands};
+ghost use Rattle.orders.specs.Phases.{phased, running, stands};
 ghost use Rattle.reader.specs.Reading.{new_reading};
-ghost use Rattle.reader.specs.Readers.{reading_of, over_fault};
+ghost use Rattle.reader.specs.Readers.{reading_of};
 
 use crate::delivery::Delivery;
 use crate::line::LineState;
 use fault::cause::Cause;
 use fault::layer::Layer;
 use fault::layer_fault::LayerFault;
+use fault::refusal::Arises;
 use orders::phase::Phase;
 use taker::paragraph_taker::ParagraphTaker;
 use undo::stage::UndoStage;
@@ -50,10 +53,7 @@ impl<U, T> Reader<U, T> {
     pub fn standing(&self) -> Option<LayerFault>
         ensures { via layer_fault result ≡ stands (phased layer_fault self.now.phase) }
     {
-        match self.phase {
-            Phase::Shut(f) => Some(f),
-            _ => None,
-        }
+        self.phase.standing()
     }
 
     pub fn taker(&self) -> &T
@@ -66,25 +66,13 @@ impl<U, T> Reader<U, T> {
     pub fn into_parts(self) -> (U, T)
         ensures { result ≡ (self.undo, self.delivery.taker) }
     {
-        let Reader {
-            undo,
-            delivery,
-            line: _,
-            phase: _,
-            place: _,
-        } = self;
-        let Delivery { taker, number: _ } = delivery;
-        (undo, taker)
+        (self.undo, self.delivery.taker)
     }
 
-    // The fault of all that comes once it has finished or was shut.
-    pub(crate) fn over(&self) -> Option<LayerFault>
-        ensures { via layer_fault result ≡ over_fault (phased layer_fault self.now.phase) self.now.place }
+    // A fault of its own, at the place where it stands.
+    fn own(&self, cause: Cause) -> LayerFault
+        ensures { layer_fault result ≡ arises cause reader_layer self.now.place }
     {
-        match self.phase {
-            Phase::Running => None,
-            Phase::Closed => Some(LayerFault::own(Cause::AfterClose, Layer::Reader, self.place)),
-            Phase::Shut(_) => Some(LayerFault::own(Cause::AfterShut, Layer::Reader, self.place)),
-        }
+        LayerFault::own(cause, Layer::Reader, self.place)
     }
 }

@@ -8,7 +8,8 @@ ghost use Rattle.sink.specs.Sink.{down};
 use crate::byte_sink::ByteSink;
 
 // How many bytes were accepted, and the fault that stopped it. The foot and the fault are those that the chunk
-// comes to as a whole.
+// comes to as a whole. The loop stands for sinks and for takers: one over a closure would owe for each, in more lines, that
+// its calls in turn come to that.
 pub fn feed<S: ByteSink>(sink: &mut S, chunk: &[u8]) -> (usize, Option<S::SinkFault>)
     ensures taken { result.0 ≡ count (S.ByteSink.means sink.old) (down chunk.now false) }
     ensures fault { via S.SinkFault.Refusal.means result.1 ≡ sent_fault (S.ByteSink.means sink.old) (down chunk.now false) }

@@ -1,5 +1,6 @@
 -- The foot after an order that was written.
 use Rattle.std.proofs.Common.{◌≡◌, ℕ, ◌+◌, ◌*◌, ◌<◌, ◌≤◌, Bool, true, false, List, [], ◌∷◌, ◌++◌, length, take, drop, set, Some, sym, refl, ap, ◌∙◌, ap₂, append_assoc, append-nil, arith, length-append, length-drop, length-take}
+use Rattle.std.specs.Int.{from_bool}
 use Rattle.std.proofs.lemmas.List.{take-set, drop-set, drop-set-add, take_more, take_more_set}
 use Rattle.orders.specs.Lists.{each}
 use Rattle.store.specs.declared.record.Record.{Record}
@@ -74,6 +75,10 @@ long_done bytes a (r ∷ rs) u e h =
     let x = length-append (begun bytes r ++ ended ∷ []) (done bytes rs) in
     let y = length-append (begun bytes r) (ended ∷ []) in
     omega arith
+
+pub in_use_by : (n : ℕ) (i : Bool) → n + from_bool i ≡ in_use n i
+in_use_by n true = refl
+in_use_by n false = omega arith
 
 pub foot_long : (records : List Record) (bytes : List ℕ) (n : ℕ) (i : Bool) (u : ℕ) → Filed records bytes n i u → length (told_by records bytes n i) ≡ u + n + in_use n i
 foot_long records bytes n false u h =

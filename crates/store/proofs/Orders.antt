@@ -1,14 +1,12 @@
 -- Each order that is written, or that finds no room.
-use Rattle.std.proofs.Common.{◌≡◌, ℕ, ◌+◌, ◌<◌, ◌≤◌, min, Bool, true, false, ltb, List, [], ◌∷◌, ◌++◌, length, set, Some, None, vec_items, Option, sym, refl, ap, ◌∙◌, subst, arith, length-set, le-ltb, lt-ltb}
+use Rattle.std.proofs.Common.{◌≡◌, ℕ, ◌+◌, ◌<◌, ◌≤◌, min, Bool, true, false, ltb, List, [], ◌∷◌, ◌++◌, length, set, Some, Ok, vec_items, sym, refl, ap, ◌∙◌, subst, arith, length-set, le-ltb, lt-ltb}
 use Rattle.std.proofs.lemmas.List.{take-set, drop-set-lt}
-use Rattle.fault.specs.declared.fault.Fault.{Fault}
 use Rattle.fault.specs.declared.cause.Cause.TheVariants.{Full}
 use Rattle.fault.specs.declared.layer.Layer.TheVariants.{Store as Layered}
 use Rattle.fault.specs.declared.own_fault.OwnFault.{OwnFault}
 use Rattle.fault.specs.Faults.{own, most}
 use Rattle.fault.specs.Kinds.{own_fault}
-use Rattle.orders.specs.declared.phase.Phase.TheVariants.{Running, Closed, Shut}
-use Rattle.orders.specs.Permits.{filled}
+use Rattle.orders.specs.declared.phase.Phase.TheVariants.{Running, Closed}
 use Rattle.orders.specs.Phases.{phased}
 use Rattle.orders.specs.Steps.{grown}
 use Rattle.orders.specs.Bottom.{bottom_means}
@@ -18,20 +16,17 @@ use Rattle.store.specs.declared.store.Store.{Store}
 use Rattle.store.specs.Events.{Event, opened, text, ended, if_room, holds, told_by, opens_in, texts_in, in_use}
 use Rattle.store.specs.Store.{at, store, store_step, store_permit}
 use Rattle.store.specs.Contents.{Contents, contents, means_by, with_open, with_text, with_end, longer}
+use Rattle.store.specs.Tiles.{room_none}
 use Rattle.store.specs.Foot.{Filed, nth, foot_opens, foot_texts}
 use Rattle.store.specs.Keeps.{Kept, Stay, stay_all, kept_same}
-use Rattle.store.specs.Meant.{meant, filed, cause_of, RefusedSo}
+use Rattle.store.specs.Meant.{meant, filed, own_answer, Turned, RefusedSo}
 use Rattle.store.specs.Written.{Opened, Wrote, Ended}
 use Rattle.store.proofs.Footing.{foot_open, foot_text, foot_end}
-use Rattle.store.proofs.Taking.{Took, took_by, full_by, open_step, text_step, end_step, finish_step}
+use Rattle.store.proofs.Taking.{Took, permit_of, one_more, took_by, full_by, open_step, text_step, end_step, finish_step}
 
 -- one cell changes
 stay_set : {X : Type 0} (xs : List X) (n : ℕ) (x : X) → Stay n (n + 1) xs (set xs n x)
 stay_set xs n x = record { front = take-set xs n x; behind = drop-set-lt (n + 1) xs n x (omega arith); grown = omega arith }
-
-room_for : (x : Bool) (p : List Event) → x ≡ true → if_room x p ≡ None
-room_for true p e = refl
-room_for false p e = let z : ◌≡◌ {A = ℕ} 0 1 = cc in absurd (omega arith)
 
 no_room : (x : Bool) (p : List Event) (u : ℕ) → x ≡ false → texts_in p ≡ u → if_room x p ≡ Some (own Full Layered (min u most))
 no_room false p u e h = ap (λ (y : ℕ). Some (own Full Layered (min y most))) h
@@ -98,44 +93,44 @@ module _ (a : Store) (run : a.phase ≡ Running) where
   shut_means : (b : Store) (c : Contents) → contents b ≡ c → b.phase ≡ a.phase → meant b ≡ means_by c Running
   shut_means b c e p = λ i. means_by (e i) (phased own_fault ((p ∙ run) i))
 
-  pub open_took : (d : ℕ) → cause_of (store_step a.count a.inside (opens d)) ≡ None → (b : Store) (n : ℕ) → Opened a b d n → Took a b (opens d)
+  pub open_took : (d : ℕ) → own_answer (store_step a.count a.inside (opens d)) ≡ Ok tt → (b : Store) (n : ℕ) → Opened a b d n → Took a b (opens d)
   open_took d q b n h =
       let s = open_step a.count a.inside d q in
       let r = h.room in
       let o = foot_opens records bytes a.count a.inside a.used (filed a) in
       let u = outside s.0 in
-      let free = room_for (ltb (opens_in foot) (min (length records) most)) foot (lt-ltb (opens_in foot) (min (length records) most) (omega arith)) in
-      took_by a (opens d) run (opened d ∷ []) (at a.count true) s.1 (foot ++ opened d ∷ []) (ap (λ (v : Option Fault). filled v foot (record { list = foot ++ opened d ∷ []; fault = None })) free) b (subst (λ (x : Contents). Kept (contents a) x) (sym h.holds) (open_kept (contents a) d s.0)) (shut_means b (with_open (contents a) d) h.holds h.phase ∙ open_means (contents a) d s.0 (omega arith))
+      let free = room_none (ltb (opens_in foot) (min (length records) most)) foot (lt-ltb (opens_in foot) (min (length records) most) (omega arith)) in
+      took_by a (opens d) run (opened d ∷ []) (at a.count true) s.1 (foot ++ opened d ∷ []) (one_more (permit_of a).bars foot (opened d) free) b (subst (λ (x : Contents). Kept (contents a) x) (sym h.holds) (open_kept (contents a) d s.0)) (shut_means b (with_open (contents a) d) h.holds h.phase ∙ open_means (contents a) d s.0 (omega arith))
 
-  pub open_full : (d : ℕ) → cause_of (store_step a.count a.inside (opens d)) ≡ None → min (length records) most ≤ a.count → (b : Store) (f : OwnFault) → contents b ≡ contents a → b.phase ≡ Shut f → f.cause ≡ Full → f.place ≡ min a.used most → f.layer ≡ Layered → RefusedSo a b (opens d) f
-  open_full d q k b f c p e g l =
+  pub open_full : (d : ℕ) → own_answer (store_step a.count a.inside (opens d)) ≡ Ok tt → min (length records) most ≤ a.count → (b : Store) (f : OwnFault) → Turned a b Full f → RefusedSo a b (opens d) f
+  open_full d q k b f w =
       let s = open_step a.count a.inside d q in
       let o = foot_opens records bytes a.count a.inside a.used (filed a) in
       let u = outside s.0 in
-      full_by a (opens d) run (opened d) (at a.count true) s.1 (no_room (ltb (opens_in foot) (min (length records) most)) foot a.used (le-ltb (opens_in foot) (min (length records) most) (omega arith)) (foot_texts records bytes a.count a.inside a.used (filed a))) b f c p e g l
+      full_by a (opens d) run (opened d) (at a.count true) s.1 (no_room (ltb (opens_in foot) (min (length records) most)) foot a.used (le-ltb (opens_in foot) (min (length records) most) (omega arith)) (foot_texts records bytes a.count a.inside a.used (filed a))) b f w
 
-  pub text_took : (x : ℕ) → cause_of (store_step a.count a.inside (texts x)) ≡ None → (b : Store) → Wrote a b x → Took a b (texts x)
+  pub text_took : (x : ℕ) → own_answer (store_step a.count a.inside (texts x)) ≡ Ok tt → (b : Store) → Wrote a b x → Took a b (texts x)
   text_took x q b h =
       let s = text_step a.count a.inside x q in
       let r = h.room in
       let t = foot_texts records bytes a.count a.inside a.used (filed a) in
-      let free = room_for (ltb (texts_in foot) (length bytes)) foot (lt-ltb (texts_in foot) (length bytes) (omega arith)) in
-      took_by a (texts x) run (text x ∷ []) (at a.count a.inside) s.1 (foot ++ text x ∷ []) (ap (λ (v : Option Fault). filled v foot (record { list = foot ++ text x ∷ []; fault = None })) free) b (subst (λ (y : Contents). Kept (contents a) y) (sym h.holds) (text_kept (contents a) x s.0)) (shut_means b (with_text (contents a) x) h.holds h.phase ∙ text_means (contents a) x s.0 (filed a) (omega arith))
+      let free = room_none (ltb (texts_in foot) (length bytes)) foot (lt-ltb (texts_in foot) (length bytes) (omega arith)) in
+      took_by a (texts x) run (text x ∷ []) (at a.count a.inside) s.1 (foot ++ text x ∷ []) (one_more (permit_of a).bars foot (text x) free) b (subst (λ (y : Contents). Kept (contents a) y) (sym h.holds) (text_kept (contents a) x s.0)) (shut_means b (with_text (contents a) x) h.holds h.phase ∙ text_means (contents a) x s.0 (filed a) (omega arith))
 
-  pub text_full : (x : ℕ) → cause_of (store_step a.count a.inside (texts x)) ≡ None → length bytes ≤ a.used → (b : Store) (f : OwnFault) → contents b ≡ contents a → b.phase ≡ Shut f → f.cause ≡ Full → f.place ≡ min a.used most → f.layer ≡ Layered → RefusedSo a b (texts x) f
-  text_full x q k b f c p e g l =
+  pub text_full : (x : ℕ) → own_answer (store_step a.count a.inside (texts x)) ≡ Ok tt → length bytes ≤ a.used → (b : Store) (f : OwnFault) → Turned a b Full f → RefusedSo a b (texts x) f
+  text_full x q k b f w =
       let s = text_step a.count a.inside x q in
       let t = foot_texts records bytes a.count a.inside a.used (filed a) in
-      full_by a (texts x) run (text x) (at a.count a.inside) s.1 (no_room (ltb (texts_in foot) (length bytes)) foot a.used (le-ltb (texts_in foot) (length bytes) (omega arith)) t) b f c p e g l
+      full_by a (texts x) run (text x) (at a.count a.inside) s.1 (no_room (ltb (texts_in foot) (length bytes)) foot a.used (le-ltb (texts_in foot) (length bytes) (omega arith)) t) b f w
 
-  pub end_took : (n : ℕ) → cause_of (store_step a.count a.inside (ends n)) ≡ None → (b : Store) → Ended a b → Took a b (ends n)
+  pub end_took : (n : ℕ) → own_answer (store_step a.count a.inside (ends n)) ≡ Ok tt → (b : Store) → Ended a b → Took a b (ends n)
   end_took n q b h =
       let s = end_step a.count a.inside n q in
       let f = (filed a).few in
       let u = ap (in_use a.count) s.0 in
       took_by a (ends n) run (ended ∷ []) (at (a.count + 1) false) s.1 (foot ++ ended ∷ []) refl b (subst (λ (y : Contents). Kept (contents a) y) (sym h.holds) (end_kept (contents a) s.0)) (shut_means b (with_end (contents a)) h.holds h.phase ∙ end_means (contents a) s.0 (omega arith))
 
-  pub finish_took : cause_of (store_step a.count a.inside finishes) ≡ None → (b : Store) → contents b ≡ contents a → b.phase ≡ Closed → Took a b finishes
+  pub finish_took : own_answer (store_step a.count a.inside finishes) ≡ Ok tt → (b : Store) → contents b ≡ contents a → b.phase ≡ Closed → Took a b finishes
   finish_took q b c p =
       let s = finish_step a.count a.inside q in
       took_by a finishes run [] (at a.count a.inside) s.1 foot refl b (subst (λ (y : Contents). Kept (contents a) y) (sym c) (kept_same (contents a))) (λ i. means_by (c i) (phased own_fault (p i)))

@@ -1,18 +1,19 @@
--- What a store of the code means, and what it is asked.
-use Rattle.std.specs.Prelude.{◌≡◌, take, Some, None, vec_items, Option}
+-- What a store of the code means, and what it refuses of its own.
+use Rattle.std.specs.Prelude.{◌≡◌, min, Bool, true, false, take, Some, Ok, Err, vec_items, Result, ⊤}
 use Rattle.std.proofs.Common.{arith}
 use Rattle.fault.specs.declared.cause.Cause.{Cause}
+use Rattle.fault.specs.declared.layer.Layer.TheVariants.{Store as Layered}
 use Rattle.fault.specs.declared.own_fault.OwnFault.{OwnFault}
+use Rattle.fault.specs.Faults.{leaves, most}
 use Rattle.fault.specs.Kinds.{own_fault}
-use Rattle.orders.specs.declared.phase.Phase.TheVariants.{Running}
-use Rattle.orders.specs.Phases.{phased}
+use Rattle.orders.specs.declared.phase.Phase.{Phase}
+use Rattle.orders.specs.declared.phase.Phase.TheVariants.{Running, Shut}
+use Rattle.orders.specs.Phases.{phased, running}
 use Rattle.orders.specs.Steps.{after, verdict}
 use Rattle.orders.specs.Bottom.{Step, takes, stops}
-use Rattle.taker.specs.Paragraph.{Order, Taker, opens, texts, ends, gives_up, finishes}
+use Rattle.taker.specs.Paragraph.{Order, Taker}
 use Rattle.taker.specs.Law.{Lawful}
 use Rattle.store.specs.declared.store.Store.{Store}
-use Rattle.store.specs.declared.ask.Ask.{Ask}
-use Rattle.store.specs.declared.ask.Ask.TheVariants.{Open, Text, End, GiveUp, Finish}
 use Rattle.store.specs.Events.{Event, in_use}
 use Rattle.store.specs.Store.{Pages, store_step}
 use Rattle.store.specs.Foot.{Filed, tiles_is}
@@ -34,19 +35,32 @@ filed s =
 pub meant_lawful : (s : Store) → Lawful (meant s)
 meant_lawful s = store_lawful (vec_items s.records) (vec_items s.bytes) s.count s.used s.inside (phased own_fault s.phase) (filed s) s.numbered
 
-abbrev pub ordered : Ask → Order
-ordered (Open d) = opens d
-ordered (Text b) = texts b
-ordered (End n) = ends n
-ordered (GiveUp n) = gives_up n
-ordered Finish = finishes
+-- whether a step is taken, or the cause that it is refused with
+abbrev pub own_answer : Step Pages Event → Result ⊤ Cause
+own_answer (takes es t) = Ok tt
+own_answer (stops c) = Err c
 
--- the cause that a step is refused with
-abbrev pub cause_of : Step Pages Event → Option Cause
-cause_of (takes es t) = None
-cause_of (stops c) = Some c
+-- the first refusal of two
+abbrev pub and_then : Result ⊤ Cause → Result ⊤ Cause → Result ⊤ Cause
+and_then (Ok x) r = r
+and_then (Err c) r = Err c
 
--- the store refused the order a; or it is as it was, goes on, and the order is not its own to refuse
+-- whether the store lets an order pass, or the cause of its own that it refuses it with
+abbrev pub allowed : Store → Order → Result ⊤ Cause
+allowed a o = and_then (running a.phase) (own_answer (store_step a.count a.inside o))
+
+-- shut by the fault, unless its cause leaves all as it was
+abbrev pub phase_by : Bool → OwnFault → Phase OwnFault → Phase OwnFault
+phase_by true f p = p
+phase_by false f p = Shut f
+
+-- the store turned an order down with a cause of its own
+pub record Turned (a b : Store) (c : Cause) (f : OwnFault) : Type 0 where
+  pub fault : f ≡ record { cause = c; layer = Layered; place = min a.used most }
+  pub holds : contents b ≡ contents a
+  pub phase : b.phase ≡ phase_by (leaves c) f a.phase
+
+-- the store refused the order o; or it is as it was, goes on, and the order is not its own to refuse
 pub record RefusedSo (a b : Store) (o : Order) (f : OwnFault) : Type 0 where
   pub told : verdict (meant a) o ≡ Some (own_fault f)
   pub left : meant b ≡ after (meant a) o
@@ -55,8 +69,4 @@ pub record RefusedSo (a b : Store) (o : Order) (f : OwnFault) : Type 0 where
 pub record LetPass (a b : Store) (o : Order) : Type 0 where
   pub same : b ≡ a
   pub goes_on : a.phase ≡ Running
-  pub own_none : cause_of (store_step a.count a.inside o) ≡ None
-
-abbrev pub Asked : Store → Store → Order → Option OwnFault → Type 0
-Asked a b o (Some f) = RefusedSo a b o f
-Asked a b o None = LetPass a b o
+  pub own_none : own_answer (store_step a.count a.inside o) ≡ Ok tt

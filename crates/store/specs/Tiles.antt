@@ -129,7 +129,7 @@ texts_begun bytes r h = let m = texts_each (text_of bytes r) in let w = text_lon
 step : (bars : List Event → Event → Option Fault) (foot : List Event) (x : Event) (xs : List Event) → bars foot x ≡ None → fill bars (foot ++ (x ∷ [])) xs ≡ all_of ((foot ++ (x ∷ [])) ++ xs) → fill bars foot (x ∷ xs) ≡ all_of (foot ++ (x ∷ xs))
 step bars foot x xs e ih = ap (λ (v : Option Fault). filled v foot (fill bars (foot ++ (x ∷ [])) xs)) e ∙ ih ∙ ap all_of (append_assoc foot (x ∷ []) xs)
 
-room_none : (x : Bool) (p : List Event) → x ≡ true → if_room x p ≡ None
+pub room_none : (x : Bool) (p : List Event) → x ≡ true → if_room x p ≡ None
 room_none true p e = refl
 room_none false p e = let z : ◌≡◌ {A = ℕ} 0 1 = cc in absurd (omega arith)
 

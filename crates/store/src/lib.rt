@@ -1,6 +1,5 @@
 // The store: paragraphs kept in the caller's records and bytes.
 #![tactic(auto)]
 
-pub mod ask;
 pub mod record;
 pub mod store;

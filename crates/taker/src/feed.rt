@@ -8,7 +8,8 @@ ghost use Rattle.taker.specs.Law.{LawfulThrough};
 use crate::paragraph_taker::ParagraphTaker;
 
 // How many bytes were accepted, and the fault that stopped it. The foot and the fault are those that the chunk
-// comes to as a whole.
+// comes to as a whole. The loop stands for sinks and for takers: one over a closure would owe for each, in more lines, that
+// its calls in turn come to that.
 pub fn feed<T: ParagraphTaker>(taker: &mut T, chunk: &[u8]) -> (usize, Option<T::TakerFault>)
     ensures taken { result.0 ≡ count (T.ParagraphTaker.means taker.old) (text_orders chunk.now) }
     ensures fault { via T.TakerFault.Refusal.means result.1 ≡ sent_fault (T.ParagraphTaker.means taker.old) (text_orders chunk.now) }

@@ -58,7 +58,7 @@ pub trait ParagraphTaker {
     fn foot_len(&self) -> u32
         ensures { result ≡ shown (means self.now).foot };
 
-    // The fault that shut it.
+    // The fault that shut it, if any did: the question's answer, and no refusal of it.
     fn standing(&self) -> Option<Self::TakerFault>
         ensures { via Self.TakerFault.Refusal.means result ≡ (means self.now).standing };
 }

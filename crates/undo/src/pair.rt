@@ -11,7 +11,7 @@ use fault::own_fault::OwnFault;
 pub struct Pair<A, B> {
     first: A,
     second: B,
-    // the refusal of either, which the pair repeats
+    // the refusal of either, which the pair repeats: asked for first, which a `?` over a Result would say no plainer
     standing: Option<OwnFault>,
 }
 

@@ -1,80 +1,87 @@
 // What the composer refuses of itself.
 ghost use Rattle.std.specs.Prelude.{◌≡◌};
-ghost use Rattle.fault.specs.declared.layer.Layer.TheVariants.{Composer as composer_layer};
-ghost use Rattle.fault.specs.Answers.{via};
-ghost use Rattle.fault.specs.Faults.{own as arises};
-ghost use Rattle.fault.specs.Kinds.{layer_fault};
-ghost use Rattle.orders.specs.Phases.{phased};
-ghost use Rattle.composer.specs.Machine.{open_refusal, end_refusal, finish_refusal};
+ghost use Rattle.composer.specs.Machine.{open_refusal, text_refusal, end_refusal, finish_refusal};
+ghost use Rattle.composer.specs.Allowing.{allowed_in};
 ghost use Rattle.composer.specs.Paragraphs.{within_of};
-ghost use Rattle.composer.specs.Composers.{over_fault, refused_phase};
+ghost use Rattle.composer.specs.Composers.{Refuses, Checks, answered_phase};
 
 use crate::composer::Composer;
 use fault::cause::Cause;
 use fault::layer::Layer;
 use fault::layer_fault::LayerFault;
-use orders::phase::Phase;
 
 impl<S> Composer<S> {
-    // The fault of any order, once the composer was closed or shut.
-    pub(crate) fn over(&self) -> Option<LayerFault>
-        ensures { via layer_fault result ≡ over_fault (phased layer_fault self.now.phase) self.now.place }
-    {
-        match self.phase {
-            Phase::Running => None,
-            Phase::Closed => Some(LayerFault::own(Cause::AfterClose, Layer::Composer, self.place)),
-            Phase::Shut(_) => Some(LayerFault::own(Cause::AfterShut, Layer::Composer, self.place)),
-        }
-    }
-
     // Refuses an order, and is shut by it, unless the cause leaves all as it was.
     pub(crate) fn refuse(&mut self, cause: Cause) -> LayerFault
-        ensures fault { layer_fault result ≡ arises cause composer_layer self.old.place }
-        ensures left { self.new ≡ record { below = self.old.below; opened = self.old.opened; paragraph = self.old.paragraph; phase = refused_phase cause result self.old.phase; place = self.old.place } }
+        ensures { Refuses self.old self.new cause result }
     {
-        let f = LayerFault::own(cause, Layer::Composer, self.place);
-        if cause.number() > 6 {
-            self.phase = Phase::Shut(f);
-        }
-        f
+        self.phase.refuse(cause, Layer::Composer, self.place)
     }
 
-    pub(crate) fn open_refusal(&self, depth: u32) -> Option<Cause>
-        ensures { result ≡ open_refusal depth self.now.opened (within_of self.now.paragraph) }
+    // Goes on with an order that may be taken, and refuses another.
+    pub(crate) fn checked(&mut self, may: Result<(), Cause>) -> Result<(), LayerFault>
+        ensures { Checks self.old self.new may result }
     {
+        // no closure over the composer: what it leaves would have no name in the proofs of the orders
+        if let Err(cause) = may {
+            return Err(self.refuse(cause));
+        }
+        Ok(())
+    }
+
+    // An answer from below, which shuts the composer if it is a refusal.
+    pub(crate) fn shut_by<T>(&mut self, answer: Result<T, LayerFault>) -> Result<T, LayerFault>
+        ensures answered { result ≡ answer }
+        ensures left { self.new ≡ record { below = self.old.below; opened = self.old.opened; paragraph = self.old.paragraph; phase = answered_phase answer self.old.phase; place = self.old.place } }
+    {
+        self.phase.settle(answer)
+    }
+
+    pub(crate) fn may_open(&self, depth: u32) -> Result<(), Cause>
+        ensures { result ≡ allowed_in self.now.phase (open_refusal depth self.now.opened (within_of self.now.paragraph)) }
+    {
+        self.phase.running()?;
         if self.paragraph.is_open() {
-            return Some(Cause::ParagraphOpen);
+            return Err(Cause::ParagraphOpen);
         }
         if depth > 100 {
-            return Some(Cause::TooDeep);
+            return Err(Cause::TooDeep);
         }
         if self.opened >= 1_000_000 {
-            return Some(Cause::OverLimit);
+            return Err(Cause::OverLimit);
         }
-        None
+        Ok(())
     }
 
-    pub(crate) fn end_refusal(&self, number: u32) -> Option<Cause>
-        ensures { result ≡ end_refusal number self.now.opened (within_of self.now.paragraph) }
+    pub(crate) fn may_take(&self, b: u8) -> Result<(), Cause>
+        ensures { result ≡ allowed_in self.now.phase (text_refusal self.now.paragraph.held.margins.width b (within_of self.now.paragraph)) }
     {
+        self.phase.running()?;
+        self.paragraph.may_take(b)
+    }
+
+    pub(crate) fn may_end(&self, number: u32) -> Result<(), Cause>
+        ensures { result ≡ allowed_in self.now.phase (end_refusal number self.now.opened (within_of self.now.paragraph)) }
+    {
+        self.phase.running()?;
         if !self.paragraph.is_open() {
-            return Some(Cause::NoParagraph);
+            return Err(Cause::NoParagraph);
         }
         if number != self.opened {
-            return Some(Cause::WrongNumber);
+            return Err(Cause::WrongNumber);
         }
-        None
+        Ok(())
     }
 
     // An open paragraph is not ended by a finish.
-    pub(crate) fn finish_refusal(&self) -> Option<Cause>
-        ensures { result ≡ finish_refusal (within_of self.now.paragraph) }
+    pub(crate) fn may_finish(&self) -> Result<(), Cause>
+        ensures { result ≡ allowed_in self.now.phase (finish_refusal (within_of self.now.paragraph)) }
     {
+        self.phase.running()?;
         let left = self.paragraph.is_open();
         if left {
-            Some(Cause::ParagraphLeft)
-        } else {
-            None
+            return Err(Cause::ParagraphLeft);
         }
+        Ok(())
     }
 }

@@ -30,12 +30,7 @@ impl<S: ByteSink> ParagraphTaker for Composer<S> {
     ghost chained = { λ a b c. keeps_chained (S.ByteSink.means a.below).foot (S.ByteSink.means b.below).foot (S.ByteSink.means c.below).foot (S.ByteSink.memory a.below) (S.ByteSink.memory b.below) (S.ByteSink.memory c.below) };
 
     fn open(&mut self, depth: u32) -> Result<u32, LayerFault> {
-        if let Some(f) = self.over() {
-            return Err(f);
-        }
-        if let Some(cause) = self.open_refusal(depth) {
-            return Err(self.refuse(cause));
-        }
+        self.checked(self.may_open(depth))?;
         let number = self.opened + 1;
         self.opened = number;
         self.paragraph.open(depth as usize);
@@ -43,65 +38,30 @@ impl<S: ByteSink> ParagraphTaker for Composer<S> {
     }
 
     fn put(&mut self, b: u8) -> Result<(), LayerFault> {
-        if let Some(f) = self.over() {
-            return Err(f);
-        }
-        if let Some(cause) = self.paragraph.refusal(b) {
-            return Err(self.refuse(cause));
-        }
-        match self.paragraph.take(&mut self.below, b) {
-            Ok(()) => {
-                self.place = self.place.saturating_add(1);
-                Ok(())
-            }
-            Err(f) => {
-                self.phase = Phase::Shut(f);
-                Err(f)
-            }
-        }
+        self.checked(self.may_take(b))?;
+        let sent = self.paragraph.take(&mut self.below, b);
+        self.shut_by(sent)?;
+        self.place = self.place.saturating_add(1);
+        Ok(())
     }
 
     fn end(&mut self, number: u32) -> Result<u32, LayerFault> {
-        if let Some(f) = self.over() {
-            return Err(f);
-        }
-        if let Some(cause) = self.end_refusal(number) {
-            return Err(self.refuse(cause));
-        }
-        match self.paragraph.end(&mut self.below) {
-            Ok(lines) => Ok(lines),
-            Err(f) => {
-                self.phase = Phase::Shut(f);
-                Err(f)
-            }
-        }
+        self.checked(self.may_end(number))?;
+        let sent = self.paragraph.end(&mut self.below);
+        self.shut_by(sent)
     }
 
     fn give_up(&mut self, number: u32) -> LayerFault {
-        if let Some(f) = self.over() {
-            return f;
-        }
-        let cause = self.end_refusal(number).unwrap_or(Cause::GivenUp);
+        let cause = self.may_end(number).err().unwrap_or(Cause::GivenUp);
         self.refuse(cause)
     }
 
     fn finish(&mut self) -> Result<u32, LayerFault> {
-        if let Some(f) = self.over() {
-            return Err(f);
-        }
-        if let Some(cause) = self.finish_refusal() {
-            return Err(self.refuse(cause));
-        }
-        match send_close(&mut self.below) {
-            Ok(n) => {
-                self.phase = Phase::Closed;
-                Ok(n)
-            }
-            Err(f) => {
-                self.phase = Phase::Shut(f);
-                Err(f)
-            }
-        }
+        self.checked(self.may_finish())?;
+        let closed = send_close(&mut self.below);
+        let n = self.shut_by(closed)?;
+        self.phase = Phase::Closed;
+        Ok(n)
     }
 
     fn foot_len(&self) -> u32 {
@@ -109,9 +69,6 @@ impl<S: ByteSink> ParagraphTaker for Composer<S> {
     }
 
     fn standing(&self) -> Option<LayerFault> {
-        match self.phase {
-            Phase::Shut(f) => Some(f),
-            _ => None,
-        }
+        self.phase.standing()
     }
 }

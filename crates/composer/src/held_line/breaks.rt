@@ -1,92 +1,84 @@
-// Where a held line is broken, from numbers alone.
-ghost use Rattle.std.specs.Prelude.{◌≡◌, ◌+◌, ◌≤◌, cond, Some as some};
-ghost use Rattle.std.specs.Str.{bytes_eq};
-ghost use Rattle.folding.specs.Text.{dashes};
-ghost use Rattle.folding.specs.WireLine.{stuffed_by, lead_by};
-ghost use Rattle.folding.specs.Incremental.{break_among, first_among, break_place};
+// Where a held line is broken.
+ghost use Rattle.std.specs.Prelude.{◌≡◌, ℕ, ◌+◌, length, slice_index};
+ghost use Rattle.folding.specs.Held.{held_with, is_dashes};
+ghost use Rattle.folding.specs.Incremental.{break_among, first_among, held_join, held_piece};
+ghost use Rattle.composer.specs.State.{held_of};
+ghost use Rattle.composer.specs.Taking.{held_len};
 
-pub(crate) fn is_two_dashes(line: &[u8]) -> bool
-    ensures { result ≡ bytes_eq line.now dashes }
-{
-    line == [0x2D, 0x2D].as_slice()
-}
+use crate::held_line::HeldLine;
 
-// Whether a piece that begins with the byte is stuffed.
-pub(crate) fn is_stuffed(depth: usize, first: u8) -> bool
-    ensures { result ≡ stuffed_by depth first }
-{
-    depth >= 1 || first == 0x20 || first == 0x3E
-}
-
-// How many bytes stand before a piece: the quote marks and the stuffing.
-pub(crate) fn lead(depth: usize, first: u8) -> usize
-    requires { depth ≤ 100 }
-    ensures { result ≡ lead_by (stuffed_by depth first) depth }
-{
-    if is_stuffed(depth, first) {
-        depth + 1
-    } else {
-        depth
+impl HeldLine {
+    // How many bytes are held, with the spaces.
+    pub(crate) fn len(&self) -> usize
+        ensures { result ≡ held_len self.now }
+    {
+        self.line.len() + self.spaces
     }
-}
 
-// Whether a break may stand behind so many bytes, among the spaces behind a line; never so that the piece is 2D 2D 20.
-fn breaks_among(len: usize, dashed: bool, place: usize) -> bool
-    ensures { result ≡ break_among len dashed place }
-{
-    len < place && !(dashed && place == 3)
-}
+    // Whether the line is 2D 2D.
+    pub(crate) fn is_dashes(&self) -> bool
+        ensures { result ≡ is_dashes (held_of self.now) }
+    {
+        self.line.as_slice() == [0x2D, 0x2D].as_slice()
+    }
 
-// The last break once the spaces and a byte have joined the line.
-pub(crate) fn break_behind(
-    len: usize,
-    last_break: Option<usize>,
-    spaces: usize,
-    dashed: bool,
-) -> Option<usize>
-    requires { len + spaces ≤ 1000000 }
-    ensures { result ≡ cond (break_among len dashed (len + spaces)) (some (len + spaces)) last_break }
-{
-    let end = len + spaces;
-    if breaks_among(len, dashed, end) {
-        Some(end)
-    } else {
-        last_break
+    // The first byte of what is held, with a byte behind it.
+    fn first(&self, b: u8) -> u8
+        ensures { result ≡ slice_index (held_with (held_of self.now) b) 0 }
+    {
+        match self.line.first() {
+            Some(first) => *first,
+            None => { if self.spaces > 0 { 0x20 } else { b } }
+        }
     }
-}
 
-fn first_among(len: usize, spaces: usize, dashed: bool) -> Option<usize>
-    requires { len + spaces ≤ 1000000 }
-    ensures { result ≡ first_among len spaces dashed }
-{
-    if dashed {
-        if spaces > 1 { Some(len + 2) } else { None }
-    } else if spaces > 0 {
-        Some(len + 1)
-    } else {
-        None
+    // Whether a break may stand behind so many bytes, among the spaces behind the line; never so that the piece is 2D 2D 20.
+    fn breaks_among(&self, place: usize) -> bool
+        ensures { result ≡ break_among (length self.now.line.items) (is_dashes (held_of self.now)) place }
+    {
+        self.line.len() < place && !(self.is_dashes() && place == 3)
     }
-}
 
-// Where a line with spaces and one more byte behind it is broken: nowhere if all of it fits, at the furthest place among the
-// spaces that fits, at its last break, or at the first place among the spaces.
-pub(crate) fn break_place(
-    len: usize,
-    last_break: Option<usize>,
-    spaces: usize,
-    dashed: bool,
-    lead: usize,
-    width: usize,
-) -> Option<usize>
-    requires { (len + spaces ≤ 1000000) × (lead ≤ 101) }
-    ensures { result ≡ break_place len last_break spaces dashed lead width }
-{
-    if lead + (len + spaces + 1) <= width {
-        return None;
+    // The first break among the spaces behind the line.
+    fn first_among(&self) -> Option<usize>
+        ensures { result ≡ first_among (length self.now.line.items) self.now.spaces (is_dashes (held_of self.now)) }
+    {
+        let len = self.line.len();
+        if self.is_dashes() {
+            if self.spaces > 1 { Some(len + 2) } else { None }
+        } else if self.spaces > 0 {
+            Some(len + 1)
+        } else {
+            None
+        }
     }
-    let furthest = (len + spaces).min(width.saturating_sub(lead));
-    if breaks_among(len, dashed, furthest) {
-        return Some(furthest);
+
+    // The last break once the spaces and a byte have joined the line.
+    pub(crate) fn break_behind(&self) -> Option<usize>
+        ensures { (b : ℕ) → result ≡ (held_join (held_of self.now) b).last_break }
+    {
+        let end = self.len();
+        if self.breaks_among(end) {
+            Some(end)
+        } else {
+            self.last_break
+        }
     }
-    last_break.or(first_among(len, spaces, dashed))
+
+    // The length of the piece that a byte other than a space sends, if it sends one: none if all of it fits, else to the furthest
+    // place among the spaces that fits, to the last break, or to the first place among the spaces.
+    pub(crate) fn piece(&self, b: u8) -> Option<usize>
+        ensures { result ≡ held_piece self.now.margins.depth self.now.margins.width (held_of self.now) b }
+    {
+        let lead = self.margins.lead(self.first(b));
+        let width = self.margins.width;
+        if lead + (self.len() + 1) <= width {
+            return None;
+        }
+        let furthest = self.len().min(width.saturating_sub(lead));
+        if self.breaks_among(furthest) {
+            return Some(furthest);
+        }
+        self.last_break.or(self.first_among())
+    }
 }

@@ -1,5 +1,5 @@
 // What is held, sent down line by line.
-ghost use Rattle.std.specs.Prelude.{◌≡◌, ◌+◌, ◌<◌, ◌≤◌, false, ◌&&◌, take, ◌==◌};
+ghost use Rattle.std.specs.Prelude.{◌≡◌, ◌+◌, ◌<◌, ◌≤◌, false, ◌&&◌, length, take, ◌==◌};
 ghost use Rattle.folding.specs.Held.{is_dashes, full};
 ghost use Rattle.fault.specs.Answers.{told};
 ghost use Rattle.fault.specs.Kinds.{layer_fault};
@@ -7,21 +7,26 @@ ghost use Rattle.folding.specs.WireLine.{wire_line};
 ghost use Rattle.folding.specs.Incremental.{ending};
 ghost use Rattle.composer.specs.Sending.{WentDown};
 ghost use Rattle.composer.specs.State.{held_of, held_text};
-ghost use Rattle.composer.specs.Taking.{TookDown, counted};
+ghost use Rattle.composer.specs.Taking.{TookDown, counted, held_len};
 
 use crate::held_line::HeldLine;
-use crate::wire::send_line;
+use crate::wire_line::WireLine;
 use fault::layer_fault::LayerFault;
 use sink::byte_sink::ByteSink;
 
 impl HeldLine {
     // The line of a piece of what is held.
     fn send_piece<S: ByteSink>(&self, below: &mut S, piece: usize) -> Result<(), LayerFault>
-        requires { piece ≤ self.now.len + self.now.spaces }
-        ensures { WentDown S.ByteSink.means S.ByteSink.memory below.old below.new (wire_line self.now.depth (take piece (held_text (held_of self.now)))) (told layer_fault result) }
+        requires { piece ≤ held_len self.now }
+        ensures { WentDown S.ByteSink.means S.ByteSink.memory below.old below.new (wire_line self.now.margins.depth (take piece (held_text (held_of self.now)))) (told layer_fault result) }
     {
-        let front = piece.min(self.len);
-        send_line(below, self.depth, &self.bytes[..front], piece - front)
+        let front = piece.min(self.line.len());
+        let line = WireLine {
+            depth: self.margins.depth,
+            piece: &self.line[..front],
+            spaces: piece - front,
+        };
+        line.send(below)
     }
 
     // Two dashes and one space, which are the whole text.
@@ -33,18 +38,20 @@ impl HeldLine {
 
     // The last line, without spaces behind it unless it is a signature separator.
     pub(crate) fn send_last<S: ByteSink>(&self, below: &mut S) -> Result<(), LayerFault>
-        ensures { WentDown S.ByteSink.means S.ByteSink.memory below.old below.new (wire_line self.now.depth (ending self.now.lines (held_of self.now))) (told layer_fault result) }
+        ensures { WentDown S.ByteSink.means S.ByteSink.memory below.old below.new (wire_line self.now.margins.depth (ending self.now.lines (held_of self.now))) (told layer_fault result) }
     {
-        if self.is_signature() {
-            return send_line(below, self.depth, &self.bytes[..self.len], 1);
-        }
-        send_line(below, self.depth, &self.bytes[..self.len], 0)
+        let line = WireLine {
+            depth: self.margins.depth,
+            piece: &self.line,
+            spaces: usize::from(self.is_signature()),
+        };
+        line.send(below)
     }
 
     // Takes a byte other than a space: lines go down until the line takes what is left.
     fn take_plain<S: ByteSink>(&mut self, below: &mut S, b: u8) -> Result<(), LayerFault>
         requires plain { (b == 32) ≡ false }
-        requires room { full self.old.depth (held_of self.old) ≡ false }
+        requires room { full self.old.margins.depth (held_of self.old) ≡ false }
         requires few { counted self.old < 1000000 }
         ensures { TookDown self.old self.new b S.ByteSink.means S.ByteSink.memory below.old below.new (told layer_fault result) }
     {
@@ -58,7 +65,7 @@ impl HeldLine {
 
     // Takes a text byte, and sends the lines that it finishes.
     pub(crate) fn take<S: ByteSink>(&mut self, below: &mut S, b: u8) -> Result<(), LayerFault>
-        requires room { (b == 32) ≡ false → full self.old.depth (held_of self.old) ≡ false }
+        requires room { (b == 32) ≡ false → full self.old.margins.depth (held_of self.old) ≡ false }
         requires few { counted self.old < 1000000 }
         ensures { TookDown self.old self.new b S.ByteSink.means S.ByteSink.memory below.old below.new (told layer_fault result) }
     {

@@ -5,7 +5,7 @@ ghost use Rattle.reader.specs.Plans.{bytes_of, events_of};
 ghost use Rattle.reader.specs.States.{content_of, made_of};
 
 use crate::line::{Content, Held, Line, LineState};
-use crate::plan::{Plan, Text};
+use crate::plan::Plan;
 use crate::sign::{Sign, sign_of};
 
 impl Line {
@@ -13,13 +13,10 @@ impl Line {
     fn end_held(self, held: Held) -> Plan
         ensures { hands (events_of result) (at_line none) ≡ line_end self.depth self.continued (holds (bytes_of held.text)) }
     {
-        let alone = match sign_of(&held.text.bytes[..held.text.len]) {
-            Sign::Signature => self.continued,
-            _ => false,
-        };
+        let alone = self.continued && matches!(sign_of(held.text.as_slice()), Sign::Signature);
         Plan {
             end_first: alone,
-            open: if alone { Some(self.depth) } else { None },
+            open: alone.then_some(self.depth),
             text: held.text,
             end: true,
         }
@@ -33,10 +30,7 @@ impl Line {
             Content::Held(held) => (self.end_held(held), LineState::begin(None)),
             Content::Passed {
                 ends_in_space: true,
-            } => (
-                Plan::of_text(Text::none()),
-                LineState::begin(Some(self.depth)),
-            ),
+            } => (Plan::default(), LineState::begin(Some(self.depth))),
             Content::Passed {
                 ends_in_space: false,
             } => (Plan::of_end(), LineState::begin(None)),

@@ -12,12 +12,7 @@ impl LineState {
         ensures { ends_of result ≡ finish_by (state_of self) }
     {
         match self {
-            LineState::InMarks { open, marks } => {
-                if marks > 0 {
-                    return Err(Cause::Incomplete);
-                }
-                Ok(open.is_some())
-            }
+            LineState::InMarks { open, marks: 0 } => Ok(open.is_some()),
             _ => Err(Cause::Incomplete),
         }
     }

@@ -7,8 +7,8 @@ ghost use Rattle.reader.specs.Plans.{bytes_of};
 ghost use Rattle.reader.specs.States.{content_of, content_step, passing};
 
 use crate::line::{Content, Held, Line, LineState};
-use crate::plan::Text;
 use crate::sign::{Sign, sign_of};
+use crate::text::Text;
 use fault::cause::Cause;
 
 impl Line {
@@ -17,11 +17,10 @@ impl Line {
         ensures { result ≡ record { depth = self.depth; continued = self.continued; content = Passed (b == space) } }
     {
         Line {
-            depth: self.depth,
-            continued: self.continued,
             content: Content::Passed {
                 ends_in_space: b == b' ',
             },
+            ..self
         }
     }
 
@@ -30,15 +29,11 @@ impl Line {
         ensures { content_step result ≡ content_byte self.depth self.continued (holds (bytes_of held.text)) b }
     {
         let text = held.text.with(b);
-        match sign_of(&text.bytes[..text.len]) {
+        match sign_of(text.as_slice()) {
             Sign::Other => (text, self.passed(b)),
             _ => {
-                let line = Line {
-                    depth: self.depth,
-                    continued: self.continued,
-                    content: Content::Held(Held { text }),
-                };
-                (Text::none(), line)
+                let content = Content::Held(Held { text });
+                (Text::default(), Line { content, ..self })
             }
         }
     }
@@ -48,7 +43,7 @@ impl Line {
     {
         match self.content {
             Content::Held(held) => self.held_byte(held, b),
-            Content::Passed { ends_in_space: _ } => (Text::one(b), self.passed(b)),
+            Content::Passed { .. } => (Text::one(b), self.passed(b)),
         }
     }
 
@@ -58,7 +53,7 @@ impl Line {
         match b {
             0x00 => Err(Cause::BarredByte),
             0x0A => Err(Cause::Unpaired),
-            0x0D => Ok((Text::none(), LineState::BehindCr(self))),
+            0x0D => Ok((Text::default(), LineState::BehindCr(self))),
             _ => {
                 let (text, line) = self.content_byte(b);
                 Ok((text, LineState::InContent(line)))

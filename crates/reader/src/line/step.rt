@@ -5,41 +5,34 @@ ghost use Rattle.reader.specs.Plans.{end_if, open_if};
 ghost use Rattle.reader.specs.States.{state_of, step_of};
 
 use crate::line::{Content, Held, Line, LineState};
-use crate::plan::{Plan, Text};
+use crate::plan::Plan;
+use crate::text::Text;
 use fault::cause::Cause;
 
 const QUOTE_MARK: u8 = b'>';
 
 const DEEPEST: u32 = 100;
 
-// Whether the open paragraph is of the depth of the line.
-fn goes_on(open: Option<u32>, depth: u32) -> bool
-    ensures { result ≡ goes_on «open» depth }
-{
-    match open {
-        Some(d) => d == depth,
-        None => false,
-    }
-}
-
 // The first byte of a line behind its quote marks: a space there is stuffing, and dropped.
 fn first_byte(open: Option<u32>, depth: u32, b: u8) -> Result<(Plan, LineState), Cause>
     ensures { step_of result ≡ first_byte «open» depth b }
 {
-    let continued = goes_on(open, depth);
+    let continued = open == Some(depth);
     let line = Line {
         depth,
         continued,
-        content: Content::Held(Held { text: Text::none() }),
+        content: Content::Held(Held {
+            text: Text::default(),
+        }),
     };
     let (text, state) = if b == b' ' {
-        (Text::none(), LineState::InContent(line))
+        (Text::default(), LineState::InContent(line))
     } else {
         line.byte(b)?
     };
     let plan = Plan {
         end_first: open.is_some() && !continued,
-        open: if continued { None } else { Some(depth) },
+        open: (!continued).then_some(depth),
         text,
         end: false,
     };
@@ -73,7 +66,7 @@ impl LineState {
                     open,
                     marks: marks + 1,
                 };
-                Ok((Plan::of_text(Text::none()), state))
+                Ok((Plan::default(), state))
             }
             LineState::BehindCr(line) => match b {
                 0x00 => Err(Cause::BarredByte),

@@ -12,7 +12,6 @@ use crate::reader::Reader;
 use fault::layer::Layer;
 use fault::layer_fault::LayerFault;
 use fault::rise::from_below;
-use orders::phase::Phase;
 use taker::paragraph_taker::ParagraphTaker;
 use undo::stage::UndoStage;
 
@@ -23,16 +22,11 @@ impl<U: UndoStage, T: ParagraphTaker> Reader<U, T> {
         ensures changed { reading_of U.UndoStage.means T.ParagraphTaker.means self.new ≡ (stepped (reading_of U.UndoStage.means T.ParagraphTaker.means self.old) (step (state_of self.old.line) b)).left }
         ensures kept { T.ParagraphTaker.keeps self.old.delivery.taker self.new.delivery.taker }
     {
-        match self.line.step(b) {
-            Ok(next) => {
-                let (plan, line) = next;
-                self.delivery.hand_on(&plan)?;
-                self.line = line;
-                self.place = self.place.saturating_add(1);
-                Ok(())
-            }
-            Err(cause) => Err(LayerFault::own(cause, Layer::Reader, self.place)),
-        }
+        let (plan, line) = self.line.step(b).map_err(|cause| self.own(cause))?;
+        self.delivery.hand_on(&plan)?;
+        self.line = line;
+        self.place = self.place.saturating_add(1);
+        Ok(())
     }
 
     // A wire byte: what the undoing stage makes of it, if anything, is read.
@@ -53,18 +47,13 @@ impl<U: UndoStage, T: ParagraphTaker> Reader<U, T> {
         ensures changed { reading_of U.UndoStage.means T.ParagraphTaker.means self.new ≡ (byte (reading_of U.UndoStage.means T.ParagraphTaker.means self.old) b).left }
         ensures kept { T.ParagraphTaker.keeps self.old.delivery.taker self.new.delivery.taker }
     {
-        if let Some(f) = self.over() {
-            return Err(f);
-        }
+        self.phase.going(Layer::Reader, self.place)?;
         let answer = self.take(b);
-        if let Err(f) = answer {
-            self.phase = Phase::Shut(f);
-        }
-        answer
+        self.phase.settle(answer)
     }
 
-    // How many bytes were accepted, and the fault that stopped it. What the taker was handed, and the fault, are those
-    // that the chunk comes to as a whole.
+    // How many bytes were accepted, and the fault that stopped it. What the taker was handed, and the fault, are those that
+    // the chunk comes to as a whole. The loop is the reader's own, since a reader is neither a sink nor a taker.
     pub fn feed(&mut self, chunk: &[u8]) -> (usize, Option<LayerFault>)
         ensures taken { result.0 ≡ accepted (reading_of U.UndoStage.means T.ParagraphTaker.means self.old) chunk.now }
         ensures fault { via layer_fault result.1 ≡ (bytes (reading_of U.UndoStage.means T.ParagraphTaker.means self.old) chunk.now).fault }

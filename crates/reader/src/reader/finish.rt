@@ -22,14 +22,10 @@ impl<U: UndoStage, T: ParagraphTaker> Reader<U, T> {
         ensures changed { reading_of U.UndoStage.means T.ParagraphTaker.means self.new ≡ (line_finish (finish_by (state_of self.old.line)) (reading_of U.UndoStage.means T.ParagraphTaker.means self.old)).left }
         ensures kept { T.ParagraphTaker.keeps self.old.delivery.taker self.new.delivery.taker }
     {
-        match self.line.finish() {
-            Ok(open) => {
-                from_below(self.undo.may_stop())?;
-                self.delivery.end_if(open)?;
-                self.delivery.finish()
-            }
-            Err(cause) => Err(LayerFault::own(cause, Layer::Reader, self.place)),
-        }
+        let open = self.line.finish().map_err(|cause| self.own(cause))?;
+        from_below(self.undo.may_stop())?;
+        self.delivery.end_if(open)?;
+        self.delivery.finish()
     }
 
     // Refused inside a line. Answers what the finish of the taker does.
@@ -38,18 +34,10 @@ impl<U: UndoStage, T: ParagraphTaker> Reader<U, T> {
         ensures changed { reading_of U.UndoStage.means T.ParagraphTaker.means self.new ≡ (finish_read (reading_of U.UndoStage.means T.ParagraphTaker.means self.old)).left }
         ensures kept { T.ParagraphTaker.keeps self.old.delivery.taker self.new.delivery.taker }
     {
-        if let Some(f) = self.over() {
-            return Err(f);
-        }
-        match self.last_orders() {
-            Ok(n) => {
-                self.phase = Phase::Closed;
-                Ok(n)
-            }
-            Err(f) => {
-                self.phase = Phase::Shut(f);
-                Err(f)
-            }
-        }
+        self.phase.going(Layer::Reader, self.place)?;
+        let answer = self.last_orders();
+        let n = self.phase.settle(answer)?;
+        self.phase = Phase::Closed;
+        Ok(n)
     }
 }

@@ -1,114 +1,91 @@
-// What the store refuses of its own.
-ghost use Rattle.std.specs.Prelude.{◌≡◌, ◌+◌, min, ◌==◌};
-ghost use Rattle.fault.specs.Faults.{leaves, most};
-ghost use Rattle.taker.specs.Paragraph.{barred};
-ghost use Rattle.store.specs.Store.{store_step};
-ghost use Rattle.store.specs.Meant.{ordered, cause_of, Asked};
+// What the store refuses of its own: what the composer does, and no more than its rules say, so each asks for itself.
+ghost use Rattle.std.specs.Prelude.{◌≡◌, OnOk, IfOk, IfErr};
+ghost use Rattle.taker.specs.Paragraph.{opens, texts, ends, gives_up, finishes};
+ghost use Rattle.store.specs.Meant.{allowed, Turned};
 
-use crate::ask::Ask;
 use crate::store::Store;
 use fault::cap::capped;
 use fault::cause::Cause;
 use fault::layer::Layer;
 use fault::own_fault::OwnFault;
-use orders::phase::Phase;
-
-fn is_barred(b: u8) -> bool
-    ensures { result ≡ barred b }
-{
-    b == 0x00 || b == 0x0A || b == 0x0D
-}
-
-// The number of the paragraph behind `count` others.
-fn is_next(count: u32, number: u32) -> bool
-    ensures { result ≡ (number == count + 1) }
-{
-    number >= 1 && number - 1 == count
-}
-
-// With `count` paragraphs ended and one open, or none.
-fn own_cause(count: u32, inside: bool, ask: Ask) -> Option<Cause>
-    ensures { result ≡ cause_of (store_step count inside (ordered ask)) }
-{
-    if inside {
-        match ask {
-            Ask::Open(_) => Some(Cause::ParagraphOpen),
-            Ask::Text(b) => {
-                if is_barred(b) {
-                    Some(Cause::BarredByte)
-                } else {
-                    None
-                }
-            }
-            Ask::End(n) => {
-                if is_next(count, n) {
-                    None
-                } else {
-                    Some(Cause::WrongNumber)
-                }
-            }
-            Ask::GiveUp(n) => {
-                if is_next(count, n) {
-                    Some(Cause::GivenUp)
-                } else {
-                    Some(Cause::WrongNumber)
-                }
-            }
-            Ask::Finish => Some(Cause::ParagraphLeft),
-        }
-    } else {
-        match ask {
-            Ask::Open(d) => { if d <= 100 { None } else { Some(Cause::TooDeep) } }
-            Ask::Finish => None,
-            _ => Some(Cause::NoParagraph),
-        }
-    }
-}
-
-// The refusals that leave all as it was.
-fn is_mild(cause: Cause) -> bool
-    ensures { result ≡ leaves cause }
-{
-    cause.number() <= 6
-}
+use taker::text::is_barred;
 
 impl Store {
-    pub(crate) fn place(&self) -> u32
-        ensures { result ≡ min self.now.used most }
+    pub(crate) fn may_open(&self, depth: u32) -> Result<(), Cause>
+        ensures { result ≡ allowed self.now (opens depth) }
     {
-        capped(self.used)
+        self.phase.running()?;
+        if self.inside {
+            return Err(Cause::ParagraphOpen);
+        }
+        if depth > 100 {
+            return Err(Cause::TooDeep);
+        }
+        Ok(())
     }
 
-    // The store's own refusal of what it is asked, which shuts it or leaves all as it was; none where it goes on.
-    pub(crate) fn refuse(&mut self, ask: Ask) -> Option<OwnFault>
-        ensures { Asked self.old self.new (ordered ask) result }
+    pub(crate) fn may_put(&self, b: u8) -> Result<(), Cause>
+        ensures { result ≡ allowed self.now (texts b) }
     {
-        let place = self.place();
-        match self.phase {
-            Phase::Closed => Some(OwnFault {
-                cause: Cause::AfterClose,
-                layer: Layer::Store,
-                place,
-            }),
-            Phase::Shut(_) => Some(OwnFault {
-                cause: Cause::AfterShut,
-                layer: Layer::Store,
-                place,
-            }),
-            Phase::Running => match own_cause(self.count, self.inside, ask) {
-                None => None,
-                Some(cause) => {
-                    let f = OwnFault {
-                        cause,
-                        layer: Layer::Store,
-                        place,
-                    };
-                    if !is_mild(cause) {
-                        self.phase = Phase::Shut(f);
-                    }
-                    Some(f)
-                }
-            },
+        self.phase.running()?;
+        if !self.inside {
+            return Err(Cause::NoParagraph);
+        }
+        if is_barred(b) {
+            return Err(Cause::BarredByte);
+        }
+        Ok(())
+    }
+
+    // The number is that of the open paragraph, behind those that are ended.
+    pub(crate) fn may_end(&self, number: u32) -> Result<(), Cause>
+        ensures { result ≡ allowed self.now (ends number) }
+    {
+        self.phase.running()?;
+        if !self.inside {
+            return Err(Cause::NoParagraph);
+        }
+        if number != self.count + 1 {
+            return Err(Cause::WrongNumber);
+        }
+        Ok(())
+    }
+
+    // Giving up is never accepted, though only an end with that number could be.
+    pub(crate) fn given_up(&self, number: u32) -> Cause
+        ensures { allowed self.now (gives_up number) ≡ Err result }
+    {
+        self.may_end(number).err().unwrap_or(Cause::GivenUp)
+    }
+
+    pub(crate) fn may_finish(&self) -> Result<(), Cause>
+        ensures { result ≡ allowed self.now finishes }
+    {
+        self.phase.running()?;
+        if self.inside {
+            return Err(Cause::ParagraphLeft);
+        }
+        Ok(())
+    }
+
+    // The store's own refusal, which shuts it unless its cause leaves all as it was.
+    pub(crate) fn refuse(&mut self, cause: Cause) -> OwnFault
+        ensures { Turned self.old self.new cause result }
+    {
+        self.phase.refuse(cause, Layer::Store, capped(self.used))
+    }
+
+    // What an order comes to: its value, or the refusal.
+    pub(crate) fn admit<T>(&mut self, ruling: Result<T, Cause>) -> Result<T, OwnFault>
+        ensures same { OnOk result (self.new ≡ self.old) }
+        ensures value { IfOk result (λ x. ruling ≡ Ok x) }
+        ensures cause { IfErr result (λ f. ruling ≡ Err f.cause) }
+        ensures refused { IfErr result (λ f. Turned self.old self.new f.cause f) }
+    {
+        // no closure over the store: where none is called, nothing would say that the store is as it was
+        match ruling {
+            Ok(x) => Ok(x),
+            Err(cause) => Err(self.refuse(cause)),
         }
     }
 }

@@ -1,49 +1,49 @@
 // What the store writes into its records and bytes.
-ghost use Rattle.std.specs.Prelude.{◌≡◌, ℕ, ◌+◌, ◌≤◌, min, true, false, Some, None, vec_len};
+ghost use Rattle.std.specs.Prelude.{◌≡◌, ℕ, ◌+◌, ◌≤◌, min, true, false, vec_len, IfOk, IfErr, OnOk, OnErr};
+ghost use Rattle.fault.specs.declared.cause.Cause.TheVariants.{Full as full_cause};
 ghost use Rattle.store.specs.Written.{Opened, Unopened, Wrote, Unwritten, Ended};
 
 use crate::record::Record;
 use crate::store::Store;
+use fault::cause::Cause;
 
 impl Store {
-    // The record of a new paragraph, and its number; none where no record is left.
-    pub(crate) fn write_open(&mut self, depth: u32) -> Option<u32>
+    // The record of a new paragraph, and its number.
+    pub(crate) fn write_open(&mut self, depth: u32) -> Result<u32, Cause>
         requires { self.old.inside ≡ false }
-        ensures { elim result [ Some n ↦ Opened self.old self.new depth n | None ↦ Unopened self.old self.new ] }
+        ensures opened { IfOk result (λ n. Opened self.old self.new depth n) }
+        ensures full { OnErr result (Unopened self.old self.new) }
+        ensures cause { IfErr result (λ c. c ≡ full_cause) }
     {
         let n = self.count as usize;
-        if n >= self.records.len() || self.count == 4294967295 {
-            return None;
+        if n >= self.records.len() {
+            return Err(Cause::Full);
         }
+        let number = self.count.checked_add(1).ok_or(Cause::Full)?;
         self.records[n] = Record {
             depth,
             start: self.used,
             length: 0,
         };
         self.inside = true;
-        Some(self.count + 1)
+        Ok(number)
     }
 
-    // A byte behind the open paragraph's text; false where no memory is left.
-    pub(crate) fn write_text(&mut self, b: u8) -> bool
+    // A byte behind the open paragraph's text.
+    pub(crate) fn write_text(&mut self, b: u8) -> Result<(), Cause>
         requires { self.old.inside ≡ true }
-        ensures taken { result ≡ true → Wrote self.old self.new b }
-        ensures full { result ≡ false → Unwritten self.old self.new }
+        ensures taken { OnOk result (Wrote self.old self.new b) }
+        ensures full { OnErr result (Unwritten self.old self.new) }
+        ensures cause { IfErr result (λ c. c ≡ full_cause) }
     {
         let at = self.used;
         if at >= self.bytes.len() {
-            return false;
+            return Err(Cause::Full);
         }
-        let i = self.count as usize;
-        let r = self.records[i];
         self.bytes[at] = b;
-        self.records[i] = Record {
-            depth: r.depth,
-            start: r.start,
-            length: r.length + 1,
-        };
+        self.records[self.count as usize].length += 1;
         self.used = at + 1;
-        true
+        Ok(())
     }
 
     // The open paragraph is ended.

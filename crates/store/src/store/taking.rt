@@ -1,55 +1,25 @@
 // The store takes the five orders.
-ghost use Rattle.std.specs.Prelude.{◌≡◌, ℕ, ◌+◌, min, true, false};
-ghost use Rattle.fault.specs.declared.cause.Cause.TheVariants.{Full as full_cause};
-ghost use Rattle.fault.specs.declared.layer.Layer.TheVariants.{Store as layered};
-ghost use Rattle.fault.specs.Faults.{most};
-ghost use Rattle.orders.specs.declared.phase.Phase.TheVariants.{Closed as closed, Shut as shut_by};
+ghost use Rattle.std.specs.Prelude.{◌≡◌, ℕ, ◌+◌};
+ghost use Rattle.orders.specs.declared.phase.Phase.TheVariants.{Closed as closed};
 ghost use Rattle.orders.specs.Steps.{shown};
 ghost use Rattle.store.specs.Events.{Event};
 ghost use Rattle.store.specs.Contents.{contents};
 ghost use Rattle.store.specs.Keeps.{Keeps, keeps_same, keeps_then};
 ghost use Rattle.store.specs.Meant.{meant, meant_lawful};
 
-use crate::ask::Ask;
 use crate::store::Store;
 use fault::cap::capped;
-use fault::cause::Cause;
-use fault::layer::Layer;
 use fault::own_fault::OwnFault;
 use orders::phase::Phase;
 use taker::paragraph_taker::ParagraphTaker;
 
 impl Store {
-    // Shut, since memory or records are full.
-    fn shut_full(&mut self) -> OwnFault
-        ensures holds { contents self.new ≡ contents self.old }
-        ensures phase { self.new.phase ≡ shut_by result }
-        ensures cause { result.cause ≡ full_cause }
-        ensures layer { result.layer ≡ layered }
-        ensures place { result.place ≡ min self.old.used most }
-    {
-        let f = OwnFault {
-            cause: Cause::Full,
-            layer: Layer::Store,
-            place: self.place(),
-        };
-        self.phase = Phase::Shut(f);
-        f
-    }
-
-    fn set_closed(&mut self)
-        ensures holds { contents self.new ≡ contents self.old }
-        ensures phase { self.new.phase ≡ closed }
-    {
-        self.phase = Phase::Closed;
-    }
-
     // How many opens, text bytes and ends it took.
     fn taken(&self) -> u32
         ensures { result ≡ shown (meant self.now).foot }
     {
         let ended = self.count as usize;
-        let opened = if self.inside { ended + 1 } else { ended };
+        let opened = ended + usize::from(self.inside);
         capped(self.used + ended + opened)
     }
 }
@@ -70,45 +40,30 @@ impl ParagraphTaker for Store {
     ghost chained = { keeps_then };
 
     fn open(&mut self, depth: u32) -> Result<u32, OwnFault> {
-        if let Some(f) = self.refuse(Ask::Open(depth)) {
-            return Err(f);
-        }
-        match self.write_open(depth) {
-            Some(number) => Ok(number),
-            None => Err(self.shut_full()),
-        }
+        self.admit(self.may_open(depth))?;
+        let number = self.write_open(depth);
+        self.admit(number)
     }
 
     fn put(&mut self, b: u8) -> Result<(), OwnFault> {
-        if let Some(f) = self.refuse(Ask::Text(b)) {
-            return Err(f);
-        }
-        if self.write_text(b) {
-            return Ok(());
-        }
-        Err(self.shut_full())
+        self.admit(self.may_put(b))?;
+        let written = self.write_text(b);
+        self.admit(written)
     }
 
     fn end(&mut self, number: u32) -> Result<u32, OwnFault> {
-        if let Some(f) = self.refuse(Ask::End(number)) {
-            return Err(f);
-        }
+        self.admit(self.may_end(number))?;
         self.write_end();
         Ok(1)
     }
 
     fn give_up(&mut self, number: u32) -> OwnFault {
-        match self.refuse(Ask::GiveUp(number)) {
-            Some(f) => f,
-            None => unreachable(),
-        }
+        self.refuse(self.given_up(number))
     }
 
     fn finish(&mut self) -> Result<u32, OwnFault> {
-        if let Some(f) = self.refuse(Ask::Finish) {
-            return Err(f);
-        }
-        self.set_closed();
+        self.admit(self.may_finish())?;
+        self.phase = Phase::Closed;
         Ok(self.taken())
     }
 
@@ -117,9 +72,6 @@ impl ParagraphTaker for Store {
     }
 
     fn standing(&self) -> Option<OwnFault> {
-        match self.phase {
-            Phase::Shut(f) => Some(f),
-            _ => None,
-        }
+        self.phase.standing()
     }
 }

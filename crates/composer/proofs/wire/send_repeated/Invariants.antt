@@ -2,6 +2,6 @@ use Rattle.std.proofs.Common.{replicate, Ok}
 use Rattle.composer.specs.Sending.{Sends}
 use Rattle.composer.proofs.wire.send_repeated.Given as goal
 
-abbrev pub invariant-loop-i : goal.invariant-loop-i
-invariant-loop-i g l =
-    Sends (g.S.ByteSink.means l.initial.below) (g.S.ByteSink.means l.below) (g.S.ByteSink.memory l.initial.below) (g.S.ByteSink.memory l.below) (replicate l.i l.b) (Ok tt)
+abbrev pub invariant-loop : goal.invariant-loop
+invariant-loop g l =
+    Sends (g.S.ByteSink.means l.initial.below) (g.S.ByteSink.means l.below) (g.S.ByteSink.memory l.initial.below) (g.S.ByteSink.memory l.below) (replicate l.counter l.b) (Ok tt)

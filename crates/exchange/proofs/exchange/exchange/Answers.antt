@@ -4,8 +4,9 @@ use Rattle.fault.specs.Answers.{told, via}
 use Rattle.fault.specs.Kinds.{layer_fault}
 use Rattle.sink.specs.Sink.{Sink}
 use Rattle.sink.specs.Same.{Matched}
-use Rattle.ends.specs.declared.memory.MemoryEnd.{MemoryEnd}
-use Rattle.ends.specs.Ends.{held}
+use Rattle.ends.specs.declared.buffer.Buffer.{Buffer}
+use Rattle.ends.specs.declared.end.End.{End}
+use Rattle.ends.specs.Buffers.{taken}
 use Rattle.dot.specs.declared.dot.Dot.{Dot}
 use Rattle.composer.specs.Composers.{means_of}
 use Rattle.reader.specs.Reading.{Reading}
@@ -42,8 +43,8 @@ returns g c =
     let one = reading_of undo_means mt c.read_mail-read.new.reader in
     let other = reading_of undo_means mw c.read_mail-read_again.new.reader in
     let wire = c.bytes-wire.result.now in
-    let end : c.below-2.result.now ≡ first.below.below = c.below-2.ensures ∙ ap (λ (s : Dot MemoryEnd). s.below) c.below.ensures in
-    let at : wire ≡ t.foot = c.bytes-wire.ensures ∙ ap (λ (k : MemoryEnd). held k.memory k.len) end in
+    let end : c.below-2.result.now ≡ first.below.below = c.below-2.ensures ∙ ap (λ (s : Dot (End Buffer)). s.below) c.below.ensures in
+    let at : wire ≡ t.foot = c.bytes-wire.ensures ∙ ap (λ (k : End Buffer). taken k.holder) end in
     let r₀ = c.reader_of-reader.result in
     let s₀ = c.reader_of-again.result in
     let z = told layer_fault c.read_mail-read.result.finish in

@@ -1,21 +1,16 @@
-use Rattle.std.proofs.Common.{◌&&◌, eqb, get_or, ap, ◌∙◌, arith}
-use Rattle.std.proofs.lemmas.List.{at_drop_all}
-use Rattle.line_ends.specs.LineEnds.{leading_dots, one_if}
-use Rattle.line_ends.proofs.Counting.{one_at_most, dots_more}
+use Rattle.std.proofs.Common.{rules, tests, ◌≡◌, eqb, ◌∙◌, arith}
+use Rattle.std.proofs.lemmas.Iterator.Consumers.{YieldsList-at, YieldsList-from_filter, count_from_yields_List}
+use Rattle.std.proofs.lemmas.Iterator.Splits.{YieldsList-from_slice_split}
+use Rattle.std.proofs.lemmas.List.Sums.{length-filter}
+use Rattle.line_ends.specs.LineEnds.{leading_dots}
+use Rattle.line_ends.proofs.Counting.{parts, dotted, dots_counted, dots_few}
 use Rattle.line_ends.proofs.count.count_leading_dots.Goals as goal
-
-pub loop-b-preserved : goal.loop-b-preserved
-loop-b-preserved c =
-    let xs = c.args.text.now in
-    let i = c.loop-b.b-index in
-    let h = c.loop-b.invariant.1 in
-    let few = one_at_most (eqb (get_or xs i 0) 46 && eqb c.loop-b.before 10) in
-    let more = dots_more c.loop-b.before xs i c.loop-b-test.true in
-    let one = c.one_for-n.ensures ∙ ap one_if c.leads.ensures in
-    (omega arith, omega arith)
 
 pub returns : goal.returns
 returns c =
-    let all = at_drop_all (leading_dots c.loop-b.before) c.args.text.now c.loop-b.b-index c.loop-b-test.false in
-    let h = c.loop-b.invariant.1 in
-    record { dots = omega arith; few = omega arith }
+    let t = c.args.text.now in
+    let dots : c.count.result ≡ leading_dots 10 t =
+    count_from_yields_List c.filter.result c.count.result c.count.ensures.ran (YieldsList-from_filter _ dotted (YieldsList-at c.filter.ensures.source (YieldsList-from_slice_split _ (λ b. eqb b 10) t c.split.ensures.rest c.split.ensures.done c.split.ensures.closure (λ x r q k. search (rules, tests)))) c.filter.ensures.closure (λ x r q k. search (rules, tests)))
+    ∙ length-filter dotted (parts t)
+    ∙ dots_counted 10 t in
+    record { dots = dots; few = omega (arith, dots_few 10 t) }

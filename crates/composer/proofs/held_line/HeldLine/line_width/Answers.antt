@@ -1,19 +1,15 @@
-use Rattle.std.proofs.Common.{◌<◌, get_or, arith}
-use Rattle.composer.specs.State.{held_of}
-use Rattle.composer.proofs.Buffers.{line_length, line_first}
+use Rattle.std.proofs.Common.{ℕ, List, ap, ◌∙◌, arith}
+use Rattle.std.specs.List.{slice_get}
 use Rattle.composer.proofs.Firsts.{line_width, width_empty}
 use Rattle.composer.proofs.held_line.HeldLine.line_width.Goals as goal
 
-pub returns-then-self-eq0 : goal.returns-then-self-eq0
-returns-then-self-eq0 c =
+pub returns-in-Some : goal.returns-in-Some
+returns-in-Some c =
     let h = c.args.self.now in
-    let len = line_length h in
-    width_empty h.depth (held_of h).line (omega arith)
+    let first = c.in-Some.ensures.value ∙ ap (λ (xs : List ℕ). slice_get xs 0) c.deref.ensures.0 in
+    omega (arith, c.lead.ensures, line_width h.margins.depth h.line.items c.in-Some.first.now first)
 
-pub returns : goal.returns
-returns c =
+pub returns-in-None : goal.returns-in-None
+returns-in-None c =
     let h = c.args.self.now in
-    let left = c.if-self-eq0.false in
-    let some : 0 < h.len = omega arith in
-    let len = line_length h in
-    omega (arith, c.lead.ensures, line_width h.depth (held_of h).line (get_or h.bytes 0 0) (omega arith) (line_first h some))
+    width_empty h.margins.depth h.line.items (c.in-None.ensures.value ∙ ap (λ (xs : List ℕ). slice_get xs 0) c.deref.ensures.0)

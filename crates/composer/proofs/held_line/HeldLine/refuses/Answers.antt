@@ -16,11 +16,11 @@ pub returns-then-b-ne32 : goal.returns-then-b-ne32
 returns-then-b-ne32 c =
     let h = c.args.self.now in
     let plain = ne_eqb c.args.b 32 c.if-b-ne32.true in
-    c.is_full.ensures ∙ twice _ ∙ ap not (sym (plain_foldable h.depth h.width (held_of h) h.shallow (valid_of h) c.args.b plain h.narrow h.lines))
+    c.is_full.ensures ∙ twice _ ∙ ap not (sym (plain_foldable h.margins.depth h.margins.width (held_of h) h.margins.shallow (valid_of h) c.args.b plain h.margins.narrow h.lines))
 
 pub returns-else-b-ne32 : goal.returns-else-b-ne32
 returns-else-b-ne32 c =
     let h = c.args.self.now in
     ap not (eq-eqb c.args.b 32 c.if-b-ne32.false)
-    ∙ ap not (sym (space_foldable h.depth h.width (held_of h) h.shallow (valid_of h) h.short h.lines))
-    ∙ ap (λ (b : ℕ). not (is_some (folding h.depth h.width (settled_behind h.lines (text_with h b))))) (sym c.if-b-ne32.false)
+    ∙ ap not (sym (space_foldable h.margins.depth h.margins.width (held_of h) h.margins.shallow (valid_of h) h.short h.lines))
+    ∙ ap (λ (b : ℕ). not (is_some (folding h.margins.depth h.margins.width (settled_behind h.lines (text_with h b))))) (sym c.if-b-ne32.false)

@@ -28,7 +28,7 @@ drop_piece-requires g c =
 pub loop-piece-preserved : goal.loop-piece-preserved
 loop-piece-preserved g c =
     let d = c.drop_piece.ensures in
-    turned c.args.self.now c.args.b c.requires.plain c.loop-piece.self _ _ _ _ c.loop-piece.invariant c.in-Some.piece c.in-Some.ensures c.drop_piece.new.self _ _ c.in_ok-send_piece.ensures d.held d.depth d.width d.lines d.less
+    turned c.args.self.now c.args.b c.requires.plain c.loop-piece.self _ _ _ _ c.loop-piece.invariant c.in-Some.piece c.in-Some.ensures c.drop_piece.new.self _ _ c.in_ok-send_piece.ensures d.held d.margins d.lines d.less
 
 pub join-requires : goal.join-requires
 join-requires g c =
@@ -49,4 +49,4 @@ pub returns : goal.returns
 returns g c =
     let none = sym c.in_default.is ∙ c.piece.ensures in
     let j = c.join.ensures in
-    joined_on c.args.self.now c.args.b c.requires.plain c.loop-piece.self _ _ _ _ c.loop-piece.invariant none c.join.new.self j.held j.depth j.width j.lines j.len
+    joined_on c.args.self.now c.args.b c.requires.plain c.loop-piece.self _ _ _ _ c.loop-piece.invariant none c.join.new.self j.held j.margins j.lines

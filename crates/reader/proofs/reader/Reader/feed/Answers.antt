@@ -1,9 +1,9 @@
-use Rattle.std.proofs.Common.{ℕ, List, get_or, ◌∙◌, subst, arith}
-use Rattle.std.proofs.lemmas.List.{drop_more, drop_all}
+use Rattle.std.proofs.Common.{ℕ, List, get_or, ◌∙◌, subst}
+use Rattle.std.proofs.lemmas.List.{drop_more}
 use Rattle.orders.proofs.Answering.{answer_err, answer_ok}
 use Rattle.reader.specs.Readers.{reading_of}
 use Rattle.reader.proofs.Whole.{whole}
-use Rattle.reader.proofs.Feeding.{Rest, rest_all, refused_at, accepted_at}
+use Rattle.reader.proofs.Feeding.{Rest, refused_at, accepted_at}
 use Rattle.reader.proofs.reader.Reader.feed.Goals as goal
 
 pub returns-in-Err : goal.returns-in-Err
@@ -35,15 +35,5 @@ loop-i-preserved g c =
       g.T.ParagraphTaker.chained c.args.self.now.delivery.taker c.loop-i.self.delivery.taker _ c.loop-i.invariant.1 b.kept,
     )
 
-pub returns : goal.returns
-returns g c =
-    let xs = c.args.chunk.now in
-    let i = c.loop-i.i in
-    let r = reading_of g.U.UndoStage.means g.T.ParagraphTaker.means c.args.self.now in
-    let n = reading_of g.U.UndoStage.means g.T.ParagraphTaker.means c.loop-i.self in
-    let h = subst (λ (l : List ℕ). Rest r n i xs l) (drop_all i xs c.loop-i-test.false) c.loop-i.invariant.0 in
-    let t = h.taken in
-    record { taken = omega arith; fault = h.fault; changed = h.left; whole = whole r xs; kept = c.loop-i.invariant.1 }
-
-pub loop-i-init : goal.loop-i-init
-loop-i-init g c = (rest_all _ _, g.T.ParagraphTaker.same c.args.self.now.delivery.taker)
+pub returns-clause-whole : goal.returns-clause-whole
+returns-clause-whole g c = whole _ _

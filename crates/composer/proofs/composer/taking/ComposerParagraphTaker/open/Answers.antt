@@ -1,31 +1,30 @@
-use Rattle.std.proofs.Common.{◌+◌, sym, refl, ap, ap₂}
+use Rattle.std.proofs.Common.{◌+◌, ◌<◌, sym, refl, ap, ap₂, arith}
+use Rattle.std.proofs.lemmas.Result.{err_from_is_err_and}
 use Rattle.fault.specs.Answers.{answer}
 use Rattle.fault.specs.Kinds.{layer_fault}
 use Rattle.orders.specs.Phases.{phased}
 use Rattle.taker.specs.Paragraph.{opens}
-use Rattle.layer.proofs.ByPhase.{ok_value}
-use Rattle.composer.specs.Keeping.{keeps_same}
-use Rattle.composer.specs.Machine.{composer}
 use Rattle.composer.specs.Composers.{state_of}
-use Rattle.composer.proofs.Outcomes.{still_running, was_accepted, came_over, came_refused}
+use Rattle.composer.proofs.Outcomes.{came_checked, goes_on, came_accepted, came_value}
+use Rattle.composer.proofs.Paragraphs.{few_opened, shallow_opened}
 use Rattle.composer.proofs.composer.taking.ComposerParagraphTaker.open.Goals as goal
 
-pub returns-in-Some : goal.returns-in-Some
-returns-in-Some g c =
-    let k = came_over g.S.ByteSink.means g.S.ByteSink.memory c.args.self.now (opens c.args.depth) c.in-Some.f c.in-Some.ensures in
-    record { answered = sym (ap (answer _) k.tells); changed = k.leads; kept = k.kept }
+pub returns-in_err-checked : goal.returns-in_err-checked
+returns-in_err-checked g c =
+    let r = err_from_is_err_and c.from_residual.result c.from_residual.ensures.1 in
+    let k = came_checked g.S.ByteSink.means g.S.ByteSink.memory (opens c.args.depth) c.args.self.now c.checked.new.self c.may_open.result c.may_open.ensures _ c.in_err-checked.ensures in
+    rw (r.1, r.2) (record { answered = sym (ap (answer _) k.tells); changed = k.leads; kept = k.kept })
 
-pub returns-in-Some-open_refusal : goal.returns-in-Some-open_refusal
-returns-in-Some-open_refusal g c =
-    let k = came_refused g.S.ByteSink.means g.S.ByteSink.memory c.args.self.now (opens c.args.depth) c.in_default.ensures c.in-Some-open_refusal.cause (sym c.in-Some-open_refusal.ensures) c.refuse.result c.refuse.ensures.fault c.refuse.new.self c.refuse.ensures.left in
-    record { answered = sym (ap (answer _) k.tells); changed = k.leads; kept = k.kept }
+pub overflow_add-number : goal.overflow_add-number
+overflow_add-number g c = let few : c.checked.new.self.opened < 1000000 = few_opened c.args.depth c.checked.new.self.opened (state_of c.checked.new.self).paragraph (goes_on g.S.ByteSink.means g.S.ByteSink.memory (opens c.args.depth) c.args.self.now c.checked.new.self c.may_open.result c.may_open.ensures _ c.in_ok-checked.ensures).none in omega arith
+
+pub open-requires : goal.open-requires
+open-requires g c = shallow_opened _ _ _ (goes_on g.S.ByteSink.means g.S.ByteSink.memory (opens c.args.depth) c.args.self.now c.checked.new.self c.may_open.result c.may_open.ensures _ c.in_ok-checked.ensures).none
 
 pub returns : goal.returns
 returns g c =
-    let s = c.args.self.now in
-    let m = g.S.ByteSink.means s.below in
-    let o = opens c.args.depth in
-    let run = still_running m (state_of s) s.phase s.place o c.in_default.ensures in
-    let d = was_accepted m (state_of s) s.phase s.place o run (sym c.in_default-open_refusal.ensures) m refl refl _ (λ i. record { width = c.open.ensures.width i; opened = s.opened + 1; paragraph = c.open.ensures.within i }) (phased layer_fault s.phase) (ap (phased layer_fault) run) s.place refl in
-    let v = ok_value composer layer_fault m (state_of s) s.phase s.place o run _ d.leads _ refl _ refl in
-    record { answered = ap₂ answer v (sym d.tells); changed = d.leads; kept = keeps_same m.foot (g.S.ByteSink.memory s.below) }
+    let d = c.checked.new.self in
+    let goes = goes_on g.S.ByteSink.means g.S.ByteSink.memory (opens c.args.depth) c.args.self.now c.checked.new.self c.may_open.result c.may_open.ensures _ c.in_ok-checked.ensures in
+    let k = came_accepted g.S.ByteSink.means g.S.ByteSink.memory (opens c.args.depth) c.args.self.now d goes refl (record { below = d.below; opened = d.opened + 1; paragraph = c.open.new.self; phase = d.phase; place = d.place }) refl (λ i. record { width = c.open.ensures.width i; opened = d.opened + 1; paragraph = c.open.ensures.within i }) (ap (phased layer_fault) goes.run) refl refl in
+    let v = came_value g.S.ByteSink.means g.S.ByteSink.memory (opens c.args.depth) c.args.self.now d goes _ k (d.opened + 1) refl in
+    record { answered = ap₂ answer v (sym k.tells); changed = k.leads; kept = k.kept }

@@ -1,39 +1,43 @@
-use Rattle.std.proofs.Common.{sym, refl, ap}
-use Rattle.fault.specs.Answers.{answer}
+use Rattle.std.proofs.Common.{true, sym, ap, ◌∙◌}
+use Rattle.std.proofs.lemmas.Result.{err_from_is_err_and}
+use Rattle.fault.specs.Answers.{answer, told}
 use Rattle.fault.specs.Kinds.{layer_fault}
 use Rattle.orders.specs.Phases.{phased}
+use Rattle.orders.specs.Steps.{place_on}
 use Rattle.orders.proofs.Answering.{answer_err, answer_ok}
 use Rattle.taker.specs.Paragraph.{texts}
-use Rattle.composer.specs.Composers.{state_of}
-use Rattle.composer.proofs.Outcomes.{kept, still_running, was_accepted, was_stopped, came_over, came_refused}
+use Rattle.composer.proofs.Outcomes.{same_place, came_by, came_checked, goes_on, passed, came_accepted, came_stopped}
 use Rattle.composer.proofs.composer.taking.ComposerParagraphTaker.put.Goals as goal
 
-pub returns-in-Some : goal.returns-in-Some
-returns-in-Some g c =
-    let k = came_over g.S.ByteSink.means g.S.ByteSink.memory c.args.self.now (texts c.args.b) c.in-Some.f c.in-Some.ensures in
+pub returns-in_err-checked : goal.returns-in_err-checked
+returns-in_err-checked g c =
+    let r = err_from_is_err_and c.from_residual.result c.from_residual.ensures.1 in
+    let k = came_checked g.S.ByteSink.means g.S.ByteSink.memory (texts c.args.b) c.args.self.now c.checked.new.self c.may_take.result c.may_take.ensures _ c.in_err-checked.ensures in
+    rw (r.1, r.2) (record { answered = sym (ap (answer _) k.tells); changed = k.leads; kept = k.kept })
+
+pub take-sent-requires : goal.take-sent-requires
+take-sent-requires g c = (goes_on g.S.ByteSink.means g.S.ByteSink.memory (texts c.args.b) c.args.self.now c.checked.new.self c.may_take.result c.may_take.ensures _ c.in_ok-checked.ensures).none
+
+pub returns-in_err-shut_by : goal.returns-in_err-shut_by
+returns-in_err-shut_by g c =
+    let r = err_from_is_err_and c.from_residual-in_err-shut_by.result c.from_residual-in_err-shut_by.ensures.1 in
+    let goes = goes_on g.S.ByteSink.means g.S.ByteSink.memory (texts c.args.b) c.args.self.now c.checked.new.self c.may_take.result c.may_take.ensures _ c.in_ok-checked.ensures in
+    let t = c.take-sent.ensures in
+    let is = sym c.in_err-shut_by.ensures.answered in
+    let fault = answer_err tt _ _ (ap (told layer_fault) (sym is) ∙ t.sends.answered) in
+    let k = came_stopped g.S.ByteSink.means g.S.ByteSink.memory (texts c.args.b) c.args.self.now c.checked.new.self goes _ _ _ c.take-sent.result _ is fault t.sends.changed t.sends.behind c.shut_by.new.self c.in_err-shut_by.ensures.left in
+    rw (r.1, r.2) (record { answered = sym (ap (answer tt) k.tells); changed = k.leads; kept = k.kept })
+
+pub returns : goal.returns
+returns g c =
+    let d = c.checked.new.self in
+    let goes = goes_on g.S.ByteSink.means g.S.ByteSink.memory (texts c.args.b) c.args.self.now c.checked.new.self c.may_take.result c.may_take.ensures _ c.in_ok-checked.ensures in
+    let t = c.take-sent.ensures in
+    let is = sym c.in_ok-shut_by.ensures.answered in
+    let fine = ap (told layer_fault) is in
+    let fault = answer_ok tt tt _ (sym fine ∙ t.sends.answered) in
+    let at = passed d c.shut_by.new.self c.take-sent.new.below c.take-sent.new.self c.take-sent.result tt is c.in_ok-shut_by.ensures.left in
+    let place = c.saturating_add-self.ensures ∙ ap (place_on true) (same_place _ _ at) in
+    let k = came_by g.S.ByteSink.means g.S.ByteSink.memory (texts c.args.b) (λ u. record { below = u.below; opened = u.opened; paragraph = u.paragraph; phase = u.phase; place = c.saturating_add-self.result }) c.args.self.now _ _ _ at
+    (came_accepted g.S.ByteSink.means g.S.ByteSink.memory (texts c.args.b) c.args.self.now d goes fault (record { below = c.take-sent.new.below; opened = d.opened; paragraph = c.take-sent.new.self; phase = d.phase; place = c.saturating_add-self.result }) t.sends.changed (λ i. record { width = t.width i; opened = d.opened; paragraph = t.within fine i }) (ap (phased layer_fault) goes.run) place t.sends.behind) in
     record { answered = sym (ap (answer tt) k.tells); changed = k.leads; kept = k.kept }
-
-pub returns-in-Some-refusal : goal.returns-in-Some-refusal
-returns-in-Some-refusal g c =
-    let k = came_refused g.S.ByteSink.means g.S.ByteSink.memory c.args.self.now (texts c.args.b) c.in_default.ensures c.in-Some-refusal.cause (sym c.in-Some-refusal.ensures) c.refuse.result c.refuse.ensures.fault c.refuse.new.self c.refuse.ensures.left in
-    record { answered = sym (ap (answer tt) k.tells); changed = k.leads; kept = k.kept }
-
-pub returns-in-Ok : goal.returns-in-Ok
-returns-in-Ok g c =
-    let s = c.args.self.now in
-    let m = g.S.ByteSink.means s.below in
-    let o = texts c.args.b in
-    let run = still_running m (state_of s) s.phase s.place o c.in_default.ensures in
-    let t = c.in-Ok.ensures in
-    let d = was_accepted m (state_of s) s.phase s.place o run (sym c.in_default-refusal.ensures) _ t.sends.changed (answer_ok tt tt _ t.sends.answered) _ (λ i. record { width = t.width i; opened = s.opened; paragraph = t.within refl i }) (phased layer_fault s.phase) (ap (phased layer_fault) run) _ c.saturating_add-self.ensures in
-    record { answered = sym (ap (answer tt) d.tells); changed = d.leads; kept = kept _ _ o _ _ d.leads t.sends.behind }
-
-pub returns-in-Err : goal.returns-in-Err
-returns-in-Err g c =
-    let s = c.args.self.now in
-    let m = g.S.ByteSink.means s.below in
-    let o = texts c.args.b in
-    let run = still_running m (state_of s) s.phase s.place o c.in_default.ensures in
-    let t = c.in-Err.ensures in
-    let d = was_stopped m (state_of s) s.phase s.place o run (sym c.in_default-refusal.ensures) _ t.sends.changed (layer_fault c.in-Err.f) (answer_err tt _ _ t.sends.answered) (state_of s) in
-    record { answered = sym (ap (answer tt) d.tells); changed = d.leads; kept = kept _ _ o _ _ d.leads t.sends.behind }

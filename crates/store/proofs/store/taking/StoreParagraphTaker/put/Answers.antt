@@ -1,31 +1,34 @@
-use Rattle.std.proofs.Common.{min, sym, ap, ◌∙◌}
-use Rattle.fault.specs.Faults.{most}
-use Rattle.fault.specs.Answers.{answer}
+use Rattle.std.proofs.Common.{refl, sym, ◌∙◌, subst}
+use Rattle.std.proofs.lemmas.Result.{err_from_is_err_and}
+use Rattle.fault.specs.declared.cause.Cause.TheVariants.{Full}
 use Rattle.taker.specs.Paragraph.{texts}
 use Rattle.store.specs.declared.store.Store.{Store}
-use Rattle.store.specs.Contents.{contents}
+use Rattle.store.specs.Written.{Wrote, Unwritten}
+use Rattle.store.specs.Meant.{Turned}
+use Rattle.store.proofs.Asking.{let_pass}
 use Rattle.store.proofs.Orders.{text_took, text_full}
-use Rattle.store.proofs.Replying.{runs_on, passes_on, took_from, refused_from}
+use Rattle.store.proofs.Replying.{runs_on, passes_on, turned_reply, written_reply}
 use Rattle.store.proofs.store.taking.StoreParagraphTaker.put.Goals as goal
 
-pub returns-then-write_text : goal.returns-then-write_text
-returns-then-write_text c =
+pub returns-in_err-admit : goal.returns-in_err-admit
+returns-in_err-admit c =
     let a = c.args.self.now in
-    let b = c.refuse.new.self in
     let o = texts c.args.b in
-    let p = c.in_default.ensures in
-    let h = c.write_text.ensures.taken c.if-write_text.true in
-    let t = took_from a b o p _ (text_took b (runs_on a b o p) c.args.b (passes_on a b o p) _ h) in
-    record { answered = sym (ap (answer tt) t.told); changed = t.left; kept = t.kept }
+    let r = err_from_is_err_and c.from_residual.result c.from_residual.ensures.1 in
+    let h = c.in_err-admit.ensures in
+    let t = turned_reply a c.admit.new.self o tt _ c.in_err-admit.field-0.0 c.may_put.ensures h.cause h.refused in
+    rw (r.1, r.2) (record { answered = t.answered; changed = t.changed; kept = t.kept })
 
 pub returns : goal.returns
 returns c =
     let a = c.args.self.now in
-    let b = c.refuse.new.self in
+    let b = c.admit.new.self in
+    let d = c.write_text-written.new.self in
+    let e = c.admit-2.new.self in
     let o = texts c.args.b in
-    let p = c.in_default.ensures in
-    let h = c.write_text.ensures.full c.if-write_text.false in
-    let f = c.shut_full.ensures in
-    let same = h.same in
-    let t = refused_from a b o p _ _ (text_full b (runs_on a b o p) c.args.b (passes_on a b o p) h.full c.shut_full.new.self c.shut_full.result (f.holds ∙ ap contents same) f.phase f.cause (f.place ∙ ap (λ (s : Store). min s.used most) same) f.layer) in
-    record { answered = sym (ap (answer tt) t.told); changed = t.left; kept = t.kept }
+    let i = c.in_ok-admit.ensures in
+    let p = let_pass a b o i.same (sym c.may_put.ensures ∙ i.value) in
+    let w = c.write_text-written.ensures in
+    let r = c.admit-2.ensures in
+    let t = written_reply a b d e o tt (λ x. Wrote b d c.args.b) (Unwritten b d) _ _ p w.taken (λ x h. (text_took b (runs_on a b o p) c.args.b (passes_on a b o p) d h, refl)) w.full (λ f h t. text_full b (runs_on a b o p) c.args.b (passes_on a b o p) h.full e f (subst (λ (s : Store). Turned s e Full f) h.same t)) w.cause r.same r.value r.cause r.refused in
+    record { answered = t.answered; changed = t.changed; kept = t.kept }
