@@ -35,6 +35,8 @@ impl WireLine<'_> {
         usize::from(self.is_stuffed())
     }
 
+    // Inlined, since of an empty line the call takes more time than all that it sends.
+    #[inline(always)]
     pub(crate) fn send<S: ByteSink>(&self, below: &mut S) -> Result<(), LayerFault>
         ensures { WentDown S.ByteSink.means S.ByteSink.memory below.old below.new (wire_line self.now.depth (content self.now)) (told layer_fault result) }
     {

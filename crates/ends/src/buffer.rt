@@ -64,11 +64,13 @@ impl Holder for Buffer {
     }
 
     fn push(&mut self, b: u8) -> Result<(), Cause> {
-        if self.len == self.memory.len() {
+        // a copy, so that the length is not read anew behind each byte that is written
+        let len = self.len;
+        if len == self.memory.len() {
             return Err(Cause::Full);
         }
-        self.memory[self.len] = b;
-        self.len += 1;
+        self.memory[len] = b;
+        self.len = len + 1;
         Ok(())
     }
 

@@ -93,11 +93,12 @@ fn two_paragraphs(rt: HostRuntime) -> Result<(), Fail> {
         Ok(len) => assert!(rt; len == 9),
         Err(_) => return Err(Fail::new("not finished")),
     }
+    // a copy of what is handed back holds the same
     let StoreMemory {
         records,
         bytes,
         ended,
-    } = store.into_memory();
+    } = store.into_memory().clone()?;
     assert!(rt; ended == 2);
     assert!(rt; bytes.as_slice() == b"abcde\xEE".as_slice());
     assert!(rt; records.len() == 3);

@@ -36,7 +36,7 @@ pub struct Store {
 }
 
 // What a store hands back.
-#[derive(Drop)]
+#[derive(Clone, Drop)]
 pub struct StoreMemory {
     pub records: Vec<Record>,
     pub bytes: Vec<u8>,

@@ -80,6 +80,9 @@ impl Paragraph {
     {
         self.bytes = None;
         self.held.send_last(below)?;
-        Ok(self.held.lines() + 1)
+        let lines = self.held.lines() + 1;
+        // emptied here, where the line was walked, so that an open costs the same behind every line
+        self.held.start(0);
+        Ok(lines)
     }
 }
