@@ -1,16 +1,16 @@
 -- The counts, by the lines that a text splits into.
 use Rattle.std.proofs.Common.{◌≡◌, ℕ, ◌+◌, ◌≤◌, max, Bool, true, false, cond, not, ◌&&◌, eqb, List, [], ◌∷◌, length, count_by, sym, refl, ap, ◌∙◌, arith}
-use Rattle.std.specs.List.{fold, slice_split, onto_first, starts_with}
+use Rattle.std.specs.List.{fold, onto_first}
 use Rattle.std.proofs.Math.Bool.{and-false}
 use Rattle.std.proofs.lemmas.Bool.{eqb-true}
 use Rattle.std.proofs.lemmas.List.Recursion.{is_count_by}
 use Rattle.std.proofs.lemmas.List.Sums.{sum_by-cons}
 use Rattle.std.proofs.lemmas.Grind.{common_steps}
-use Rattle.line_ends.specs.LineEnds.{one_if, line_feeds, leading_dots, on_byte, widest}
+use Rattle.line_ends.specs.LineEnds.{parts, dotted, breadth, one_if, line_feeds, leading_dots, on_byte, widest}
 
--- the parts between the LF of a text
-abbrev pub parts : List ℕ → List (List ℕ)
-parts t = slice_split (λ b. eqb b 10) t
+pub one_at_most : (x : Bool) → one_if x ≤ 1
+one_at_most true = omega arith
+one_at_most false = omega arith
 
 one_more : (x : Bool) (n : ℕ) → one_if x + n ≡ cond x (1 + n) n
 one_more true n = refl
@@ -18,9 +18,6 @@ one_more false n = omega arith
 
 pub feeds_counted : (t : List ℕ) → count_by (λ b. eqb b 10) t ≡ line_feeds t
 feeds_counted t = sym (is_count_by line_feeds (λ b. eqb b 10) refl (λ b u. one_more (eqb b 10) (line_feeds u)) t)
-
-abbrev pub dotted : List ℕ → Bool
-dotted l = starts_with eqb l (46 ∷ [])
 
 -- of the first part, where a line begins there, and of the others
 abbrev pub dotted_from : Bool → List (List ℕ) → ℕ
@@ -53,10 +50,6 @@ dots_step b x false e (l ∷ ls) = dots_onto b x l ls
 pub dots_few : (p : ℕ) (t : List ℕ) → leading_dots p t ≤ length t
 dots_few p [] = omega arith
 dots_few p (b ∷ t) = omega (arith, one_at_most (eqb b 46 && eqb p 10), dots_few b t)
-  where
-    one_at_most : (x : Bool) → one_if x ≤ 1
-    one_at_most true = omega arith
-    one_at_most false = omega arith
 
 pub dots_counted : (p : ℕ) (t : List ℕ) → dotted_from (eqb p 10) (parts t) ≡ leading_dots p t
 dots_counted p [] = at_end (eqb p 10)
@@ -65,9 +58,6 @@ dots_counted p [] = at_end (eqb p 10)
     at_end true = refl
     at_end false = refl
 dots_counted p (b ∷ t) = dots_step b (eqb p 10) (eqb b 10) refl (parts t) ∙ ap (λ (n : ℕ). one_if (eqb b 46 && eqb p 10) + n) (dots_counted b t)
-
-abbrev pub breadth : List ℕ → ℕ
-breadth l = count_by (λ b. not (eqb b 13)) l
 
 -- of the first part, with a width before it, and of the others
 abbrev pub widest_from : ℕ → ℕ → List (List ℕ) → ℕ

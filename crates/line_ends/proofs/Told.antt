@@ -1,11 +1,8 @@
 -- The counts as one pass over the bytes tells them: 64 bits tell those of every text.
-use Rattle.std.proofs.Common.{◌≡◌, ℕ, ◌+◌, ◌%◌, ◌^◌, ◌<◌, ◌≤◌, max, Bool, true, false, cond, ◌&&◌, eqb, List, [], ◌∷◌, length, ap, ◌∙◌, arith}
+use Rattle.std.proofs.Common.{◌≡◌, ℕ, ◌+◌, ◌%◌, ◌^◌, ◌<◌, max, Bool, true, false, cond, ◌&&◌, eqb, List, [], ◌∷◌, length, ap, ◌∙◌, arith}
 use Rattle.std.specs.List.{fold}
 use Rattle.line_ends.specs.LineEnds.{one_if, line_feeds, leading_dots, widest}
-
-one_at_most : (x : Bool) → one_if x ≤ 1
-one_at_most true = omega arith
-one_at_most false = omega arith
+use Rattle.line_ends.proofs.Counting.{one_at_most}
 
 -- one more, as far as 64 bits tell
 abbrev pub feeds_on : ℕ → ℕ → ℕ

@@ -1,5 +1,6 @@
 -- Line ends of a text, by the byte that stands before each.
-use Rattle.std.specs.Prelude.{ℕ, ◌+◌, max, Bool, true, false, cond, not, ◌&&◌, List, [], ◌∷◌, ◌++◌, ◌==◌}
+use Rattle.std.specs.Prelude.{ℕ, ◌+◌, max, Bool, true, false, cond, not, ◌&&◌, List, [], ◌∷◌, ◌++◌, ◌==◌, count_by}
+use Rattle.std.specs.List.{slice_split, starts_with}
 
 -- a 0A, and 0D before it unless one stands there
 abbrev pub with_cr : Bool → ℕ → List ℕ
@@ -14,6 +15,18 @@ crlf_behind p (b ∷ bs) = with_cr (b == 10 && not (p == 13)) b ++ crlf_behind b
 -- the text with CRLF at each line end
 abbrev pub with_crlf : List ℕ → List ℕ
 with_crlf t = crlf_behind 0 t
+
+-- the lines of a text: what stands between its LF, and behind the last
+abbrev pub parts : List ℕ → List (List ℕ)
+parts t = slice_split (λ b. b == 10) t
+
+-- a line that begins with a dot
+abbrev pub dotted : List ℕ → Bool
+dotted l = starts_with (λ x y. x == y) l (46 ∷ [])
+
+-- how wide a line is: its bytes but for 0D
+abbrev pub breadth : List ℕ → ℕ
+breadth l = count_by (λ b. not (b == 13)) l
 
 abbrev pub one_if : Bool → ℕ
 one_if true = 1
